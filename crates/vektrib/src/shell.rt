@@ -1,0 +1,48 @@
+// The commands, by name.
+use crate::eval::eval;
+use std::error::AnyError;
+
+fn help(rt: &LibcRuntime, rest: &[&str]) -> Result<(), AnyError> {
+    if let Some(word) = rest.first() {
+        println!(
+            rt,
+            "wrong: word 1: expected the end of the line, found '{word}'"
+        )?;
+        return Ok(());
+    }
+    println!(rt, "help              lists the commands")?;
+    println!(
+        rt,
+        "eval EXPRESSION   works out an expression in prefix form, as eval ADD 1 MUL 2 3"
+    )?;
+    println!(
+        rt,
+        "                  operations: ADD SUB MUL DIV LESS SAME AND OR NOT"
+    )?;
+    println!(
+        rt,
+        "                  values: numbers, true, false, ?i and ?b for unknown ones"
+    )?;
+    Ok(())
+}
+
+// Answers one line. Blank lines and lines that begin with # have no answer.
+pub fn answer(rt: &LibcRuntime, line: &str) -> Result<(), AnyError> {
+    let words: Vec<&str> = line.split_ascii_whitespace().collect(rt.alloc())?;
+    let Some(command) = words.first() else {
+        return Ok(());
+    };
+    match *command {
+        "help" => help(rt, &words[1..]),
+        "eval" => eval(rt, &words[1..]),
+        name => {
+            if !name.starts_with('#') {
+                println!(
+                    rt,
+                    "wrong: unknown command '{name}'; help lists the commands"
+                )?;
+            }
+            Ok(())
+        }
+    }
+}
