@@ -1,0 +1,4 @@
+pub mod Numbers
+pub mod Expressions
+pub mod Statements
+pub mod Behaviours
