@@ -1,0 +1,2 @@
+// Which files are admitted: the law above the check.
+pub mod placeholder;

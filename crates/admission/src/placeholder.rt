@@ -1,0 +1,3 @@
+ghost use Rattle.admission.specs.Admission.{Admits};
+
+pub fn nothing() {}

@@ -1,0 +1,7 @@
+pub mod Faults
+pub mod Checked
+pub mod Expressions
+pub mod Heads
+pub mod Statements
+pub mod Behaviours
+pub mod Files

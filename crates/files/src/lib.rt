@@ -1,0 +1,2 @@
+// Model files: which bytes are admitted, and the fault of those that are refused.
+pub mod fault;
