@@ -1,0 +1,5 @@
+pub mod Exits
+pub mod VariableKinds
+pub mod Expressing
+pub mod Behaving
+pub mod Repeating

@@ -1,5 +1,5 @@
 -- An answer or the first fault.
-use Prim.Native.Nat.{ℕ}
+use Prim.Native.Nat.{ℕ, zero, suc, _+_}
 use mathlib.Core.Bool.{Bool, true, false}
 use Rattle.std.specs.declared.option.Option.{Option}
 use Rattle.std.specs.declared.option.Option.the-variants.{Some, None}
@@ -35,3 +35,8 @@ ask false k at l = Err (fault k at l)
 abbrev pub known : {A : Type 0} → Option A → FaultKind → ℕ → Layer → Checked A
 known None k at l = Err (fault k at l)
 known (Some a) k at l = Ok a
+
+-- some items of one size, one after the other, and the place behind them
+abbrev pub repeated : (ℕ → Checked (Unit {0})) → ℕ → ℕ → ℕ → Checked ℕ
+repeated item size zero at = Ok at
+repeated item size (suc n) at = item at >> repeated item size n (at + size)

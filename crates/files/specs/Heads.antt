@@ -1,5 +1,6 @@
 -- The head of a class: its variables and declarations, as they stand in the bytes, and their check.
-use Prim.Native.Nat.{ℕ, zero, suc, _+_, _*_}
+use Prim.Native.Nat.{ℕ, zero, suc, _+_, _*_, _≤_}
+use mathlib.Core.Path.{_≡_}
 use mathlib.Core.Bool.{Bool, true, false, cond, _&&_, _||_}
 use mathlib.Core.List.{List, [], _∷_, map}
 use lib.Dec.{eqb, leb, ltb}
@@ -17,7 +18,7 @@ use Rattle.commands.specs.Numbers.{two-bytes, four-bytes}
 use Rattle.commands.specs.Trees.{Declaration}
 use Rattle.files.specs.declared.fault.FaultKind.the-variants.{ClassHead}
 use Rattle.files.specs.declared.fault.Layer.the-variants.{ClassHead as ClassHeadL}
-use Rattle.files.specs.Checked.{Checked, ask, _>>=_, _>>_}
+use Rattle.files.specs.Checked.{Checked, ask, repeated, _>>=_, _>>_}
 
 abbrev pub byte : List ℕ → ℕ → ℕ
 byte f at = getD f at 0
@@ -78,8 +79,7 @@ check-variable f at = do
 
 -- some variables, and the place behind them
 abbrev pub check-variables : ℕ → List ℕ → ℕ → Checked ℕ
-check-variables zero f at = Ok at
-check-variables (suc n) f at = check-variable f at >> check-variables n f (at + 6)
+check-variables n f at = repeated (check-variable f) 6 n at
 
 -- the kind byte of value i in a declaration of some values
 abbrev pub kind-fits : ℕ → ℕ → ℕ → Bool
@@ -88,21 +88,25 @@ kind-fits i count b = cond (ltb i count) (is-kind b) (eqb b 0)
 abbrev pub check-kind : List ℕ → ℕ → ℕ → Checked (Unit {0})
 check-kind f at i = field f (at + 4 + i) 1 (kind-fits i (byte f (at + 3)) (byte f (at + 4 + i)))
 
--- direction, channel, message, number of values, four kinds
-abbrev pub check-declaration : List ℕ → ℕ → Checked (Unit {0})
-check-declaration f at = do
+-- direction, channel, message, number of values
+abbrev pub check-exchange : List ℕ → ℕ → Checked (Unit {0})
+check-exchange f at = do
     field f at 1 (ltb (byte f at) 2)
     field f (at + 1) 1 (ltb (byte f (at + 1)) 32)
     field f (at + 2) 1 (ltb (byte f (at + 2)) 255)
     field f (at + 3) 1 (ltb (byte f (at + 3)) 5)
+
+-- those, and four kinds
+abbrev pub check-declaration : List ℕ → ℕ → Checked (Unit {0})
+check-declaration f at = do
+    check-exchange f at
     check-kind f at 0
     check-kind f at 1
     check-kind f at 2
     check-kind f at 3
 
 abbrev pub check-declarations : ℕ → List ℕ → ℕ → Checked ℕ
-check-declarations zero f at = Ok at
-check-declarations (suc n) f at = check-declaration f at >> check-declarations n f (at + 8)
+check-declarations n f at = repeated (check-declaration f) 8 n at
 
 -- a class whose bytes begin at a place: the place of its statement
 abbrev pub check-head : List ℕ → ℕ → Checked ℕ
@@ -121,3 +125,9 @@ declarations-place f at = at + 1 + 6 * byte f at
 
 abbrev pub class-declarations : List ℕ → ℕ → List Declaration
 class-declarations f at = declarations-at (byte f (declarations-place f at)) f (declarations-place f at + 1)
+
+-- the statement's place in a class whose head was checked: behind all variables and declarations
+pub record Headed (f : List ℕ) (at place : ℕ) : Type 0 where
+  pub variables-within : declarations-place f at + 1 ≤ length f
+  pub place-is : place ≡ declarations-place f at + 1 + 8 * byte f (declarations-place f at)
+  pub place-within : place ≤ length f

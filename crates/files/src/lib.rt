@@ -1,2 +1,8 @@
 // Model files: which bytes are admitted, and the fault of those that are refused.
+pub(crate) mod behaviour;
+pub(crate) mod bytes;
+pub(crate) mod checked;
+pub(crate) mod expression;
 pub mod fault;
+pub(crate) mod head;
+pub mod variables;
