@@ -3,5 +3,6 @@ pub mod Checked
 pub mod Expressions
 pub mod Heads
 pub mod Statements
+pub mod KindLists
 pub mod Behaviours
 pub mod Files

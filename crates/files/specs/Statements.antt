@@ -49,14 +49,14 @@ all-unused (x ∷ xs) = eqb x 255 && all-unused xs
 abbrev pub variables-fit : ℕ → ℕ → List ℕ → Bool
 variables-fit variables count vs = all-below variables (take count vs) && distinct (take count vs) && all-unused (drop count vs)
 
+abbrev pub kind-or-integer : Option Kind → Kind
+kind-or-integer None = Integer
+kind-or-integer (Some k) = k
+
 -- the kinds of variables that exist
 abbrev pub kinds-of : List Kind → List ℕ → List Kind
 kinds-of ks [] = []
-kinds-of ks (v ∷ vs) = kind-or (nth ks v) ∷ kinds-of ks vs
-  where
-    kind-or : Option Kind → Kind
-    kind-or None = Integer
-    kind-or (Some k) = k
+kinds-of ks (v ∷ vs) = kind-or-integer (nth ks v) ∷ kinds-of ks vs
 
 abbrev pub same-kinds : List Kind → List Kind → Bool
 same-kinds [] [] = true
@@ -99,23 +99,35 @@ few-fronts at end = do
     ask (leb (end .1) 8) Fronts at Statement
     Ok end
 
--- a command's operands and parts, with what the checks answer of an expression and of a statement at each place
-abbrev pub statement-parts : (ℕ → Checked End) → (ℕ → Checked Behind) → List Kind → List Declaration → ℕ → StatementCommand → Checked Behind
-statement-parts value part ks ds at Skip = Ok (at + 1, 1)
-statement-parts value part ks ds at (Set v) = do
+-- SET: the variable exists, and the value has its kind
+abbrev pub check-set : (ℕ → Checked End) → List Kind → ℕ → ℕ → Checked Behind
+check-set value ks at v = do
     kind ← known (nth ks v) Operand at Statement
     end ← value (at + 2)
     ask (same-kind kind (end .1)) PartKind (at + 2) Expression
     Ok (end .0, 1)
-statement-parts value part ks ds at (Send channel message count) = do
+
+-- SEND: operands within bounds, the values, and a declaration of their kinds
+abbrev pub check-send : (ℕ → Checked End) → List Declaration → ℕ → ℕ → ℕ → ℕ → Checked Behind
+check-send value ds at channel message count = do
     ask (exchange-fits channel message count) Operand at Statement
     values ← check-values count value (at + 4)
     ask (declared (exchange false channel message (values .1)) ds) Undeclared at Statement
     Ok (values .0, 1)
-statement-parts value part ks ds at (Recv channel message count vs) = do
+
+-- RECV: operands within bounds, and a declaration of the variables' kinds
+abbrev pub check-receive : List Kind → List Declaration → ℕ → ℕ → ℕ → ℕ → List ℕ → Checked Behind
+check-receive ks ds at channel message count vs = do
     ask (exchange-fits channel message count && variables-fit (length ks) count vs) Operand at Statement
     ask (declared (exchange true channel message (kinds-of ks (take count vs))) ds) Undeclared at Statement
     Ok (at + 8, 1)
+
+-- a command's operands and parts, with what the checks answer of an expression and of a statement at each place
+abbrev pub statement-parts : (ℕ → Checked End) → (ℕ → Checked Behind) → List Kind → List Declaration → ℕ → StatementCommand → Checked Behind
+statement-parts value part ks ds at Skip = Ok (at + 1, 1)
+statement-parts value part ks ds at (Set v) = check-set value ks at v
+statement-parts value part ks ds at (Send channel message count) = check-send value ds at channel message count
+statement-parts value part ks ds at (Recv channel message count vs) = check-receive ks ds at channel message count vs
 statement-parts value part ks ds at (Seq place) = do
     first ← part (at + 3)
     placed at (first .0) place

@@ -15,7 +15,7 @@ pub struct Variables {
 }
 
 // The kind that the byte at a place stands for; any but 2 is an Integer's.
-fn kind_at(file: &[u8], at: usize) -> Kind
+pub(crate) fn kind_at(file: &[u8], at: usize) -> Kind
     ensures { λ r. ⌜ r ≡ kind-at (now (file .entry)) at ⌝ }
 {
     if byte_at(file, at) == 2 { Kind::Boolean } else { Kind::Integer }
