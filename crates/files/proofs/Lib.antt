@@ -6,3 +6,5 @@ pub mod Repeating
 pub mod Scans
 pub mod OperandScans
 pub mod Declaring
+pub mod Valuing
+pub mod Receiving

@@ -4,5 +4,6 @@ pub mod Expressions
 pub mod Heads
 pub mod Statements
 pub mod KindLists
+pub mod Scopes
 pub mod Behaviours
 pub mod Files

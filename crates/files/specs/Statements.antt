@@ -1,7 +1,7 @@
 -- The check of a statement at a place of the file: the first fault, or the place behind it and its most fronts.
 use Prim.Native.Nat.{ℕ, zero, suc, _+_}
 use mathlib.Core.Bool.{Bool, true, false, cond, not, _&&_, _||_}
-use mathlib.Core.List.{List, [], _∷_}
+use mathlib.Core.List.{List, [], _∷_, map}
 use lib.Dec.{eqb, leb, ltb}
 use lib.ListN.{length, drop, take}
 use Rattle.std.specs.declared.option.Option.{Option}
@@ -55,8 +55,7 @@ kind-or-integer (Some k) = k
 
 -- the kinds of variables that exist
 abbrev pub kinds-of : List Kind → List ℕ → List Kind
-kinds-of ks [] = []
-kinds-of ks (v ∷ vs) = kind-or-integer (nth ks v) ∷ kinds-of ks vs
+kinds-of ks vs = map (λ v. kind-or-integer (nth ks v)) vs
 
 abbrev pub same-kinds : List Kind → List Kind → Bool
 same-kinds [] [] = true

@@ -2,10 +2,12 @@
 pub(crate) mod behaviour;
 pub(crate) mod bytes;
 pub(crate) mod checked;
+pub mod exchange;
 pub(crate) mod expression;
 pub mod declarations;
 pub mod fault;
 pub(crate) mod head;
 pub(crate) mod kinds;
 pub(crate) mod operands;
+pub(crate) mod statement;
 pub mod variables;

@@ -1,5 +1,6 @@
 // The operands of SEND and RECV.
 ghost use mathlib.Core.Path.{_≡_};
+ghost use mathlib.Core.Bool.{true, _&&_};
 ghost use Prim.Native.Nat.{_≤_};
 ghost use lib.ListN.{length, take};
 ghost use Rattle.files.specs.Heads.{kinds-at};
@@ -60,10 +61,19 @@ fn are_unused(list: &[u8]) -> bool
 }
 
 // The variables of a RECV: the used ones exist and differ, the others are FF.
-pub(crate) fn variables_fit(variables: u8, count: u8, list: &[u8]) -> bool
+fn variables_fit(variables: u8, count: u8, list: &[u8]) -> bool
     requires { ⌜ count ≤ length (now list) ⌝ }
     ensures { λ r. ⌜ r ≡ variables-fit variables count (now (list .entry)) ⌝ }
 {
     let (used, unused) = list.split_at(count as usize);
     are_below(variables, used) && are_distinct(used) && are_unused(unused)
+}
+
+// The operands of a RECV are within their bounds.
+pub(crate) fn receive_fits(variables: u8, channel: u8, message: u8, count: u8, list: &[u8]) -> bool
+    requires { ⌜ length (now list) ≡ 4 ⌝ }
+    ensures exact { λ r. ⌜ r ≡ (exchange-fits channel message count && variables-fit variables count (now (list .entry))) ⌝ }
+    ensures few { λ r. ⌜ (r ≡ true → count ≤ 4) ⌝ }
+{
+    exchange_fits(channel, message, count) && variables_fit(variables, count, list)
 }
