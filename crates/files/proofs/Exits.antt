@@ -21,3 +21,8 @@ further (Err x) end at later long h m = tt
 pub ends-at : {A : Type 0} (r : Checked A) (end : A → ℕ) (at size long : ℕ) → 0 < size → at + size ≤ long → made r (λ v. end v ≡ at + size) → made r (λ v. (at < end v) × (end v ≤ long))
 ends-at (Ok a) end at size long h k m = (omega (arith, m), omega (arith, m))
 ends-at (Err x) end at size long h k m = tt
+
+-- a statement that ends at a known place within the file, with few fronts
+pub few-within : (r : Checked (ℕ × ℕ)) (at end long : ℕ) → at < end → end ≤ long → made r (λ v. (v .0 ≡ end) × (v .1 ≤ 8)) → made r (λ v. (at < v .0) × (v .0 ≤ long) × (v .1 ≤ 8))
+few-within (Ok v) at end long h k m = (omega (arith, m .0), omega (arith, m .0), m .1)
+few-within (Err x) at end long h k m = tt

@@ -8,3 +8,4 @@ pub mod OperandScans
 pub mod Declaring
 pub mod Valuing
 pub mod Receiving
+pub mod Stating

@@ -52,3 +52,65 @@ fn few_fronts(at: usize, end: (usize, u8)) -> Result<(usize, u8), LoadFault>
     ask(end.1 <= FRONTS, FaultKind::Fronts, at, Layer::Statement)?;
     Ok(end)
 }
+
+// The place behind the statement at `at`, and the most fronts that it can have; it may nest `left` deep.
+pub(crate) fn check_statement(file: &[u8], at: usize, left: u8, scope: Scope) -> Result<(usize, u8), LoadFault>
+    requires place { ⌜ at ≤ length (now file) ⌝ }
+    requires scope { ⌜ Within (now file) scope ⌝ }
+    ensures exact { λ r. ⌜ r ≡ check-statement left (now (file .entry)) at (kinds-at (scope .variables .count) (now (file .entry)) (scope .variables .at)) (declarations-at (scope .declarations .count) (now (file .entry)) (scope .declarations .at)) ⌝ }
+    ensures within { λ r. ⌜ made r (λ v. (at < v .0) × (v .0 ≤ length (now (file .entry))) × (v .1 ≤ 8)) ⌝ }
+{
+    let Some(command) = read_statement(file, at) else {
+        return Err(fault(FaultKind::Command, at, Layer::Statement));
+    };
+    if left == 0 {
+        return Err(fault(FaultKind::Depth, at, Layer::Statement));
+    }
+    match command {
+        StatementCommand::Skip => few_fronts(at, (at + 1, 1)),
+        StatementCommand::Set(variable) => {
+            let set = check_set(file, at, left - 1, scope, variable)?;
+            few_fronts(at, set)
+        }
+        StatementCommand::Send(channel, message, count) => {
+            let sent = check_send(file, at, left - 1, scope, channel, message, count)?;
+            few_fronts(at, sent)
+        }
+        StatementCommand::Recv(channel, message, count, list) => {
+            let received = check_receive(file, at, scope, channel, message, count, &list)?;
+            few_fronts(at, received)
+        }
+        StatementCommand::Seq(place) => {
+            let first = check_statement(file, at + 3, left - 1, scope)?;
+            placed(at, first.0, place)?;
+            let second = check_statement(file, first.0, left - 1, scope)?;
+            few_fronts(at, (second.0, first.1))
+        }
+        StatementCommand::Sel(place) => {
+            let one = check_statement(file, at + 3, left - 1, scope)?;
+            placed(at, one.0, place)?;
+            let other = check_statement(file, one.0, left - 1, scope)?;
+            few_fronts(at, (other.0, one.1 + other.1))
+        }
+        StatementCommand::Guard(place) => {
+            let test = check_test(file, at + 3, left - 1, scope.variables)?;
+            placed(at, test, place)?;
+            let guarded = check_statement(file, test, left - 1, scope)?;
+            few_fronts(at, guarded)
+        }
+        StatementCommand::If(place, otherwise) => {
+            let condition = check_test(file, at + 5, left - 1, scope.variables)?;
+            placed(at, condition, place)?;
+            let yes = check_statement(file, condition, left - 1, scope)?;
+            placed(at, yes.0, otherwise)?;
+            let no = check_statement(file, yes.0, left - 1, scope)?;
+            few_fronts(at, (no.0, 2))
+        }
+        StatementCommand::Do(place) => {
+            let again = check_test(file, at + 3, left - 1, scope.variables)?;
+            placed(at, again, place)?;
+            let body = check_statement(file, again, left - 1, scope)?;
+            few_fronts(at, (body.0, 2))
+        }
+    }
+}
