@@ -9,3 +9,4 @@ pub mod Declaring
 pub mod Valuing
 pub mod Receiving
 pub mod Stating
+pub mod Filing

@@ -47,6 +47,10 @@ check-header f = do
     first-byte f 2 0x01
     ask (leb 1 (byte f 3) && leb (byte f 3) 8) FirstBytes 3 FileL
 
+-- the number of classes behind a good header
+abbrev pub header-classes : List ℕ → Checked ℕ
+header-classes f = check-header f >> Ok (byte f 3)
+
 -- the number of classes, the place of the behaviour, and the number of processes
 abbrev pub Summary : Type 0
 Summary = ℕ × ℕ × ℕ

@@ -7,3 +7,4 @@ pub mod KindLists
 pub mod Scopes
 pub mod Behaviours
 pub mod Files
+pub mod Summaries

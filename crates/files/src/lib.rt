@@ -6,6 +6,7 @@ pub mod exchange;
 pub(crate) mod expression;
 pub mod declarations;
 pub mod fault;
+pub mod file;
 pub(crate) mod head;
 pub(crate) mod kinds;
 pub(crate) mod operands;
