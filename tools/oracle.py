@@ -542,7 +542,25 @@ HELP = """\
 help              lists the commands
 eval EXPRESSION   works out an expression in prefix form, as eval ADD 1 MUL 2 3
                   operations: ADD SUB MUL DIV LESS SAME AND OR NOT
-                  values: numbers, true, false, ?i and ?b for unknown ones"""
+                  values: numbers, true, false, ?i and ?b for unknown ones
+check HEX         says whether a model file is admitted, or its first fault"""
+
+def hex_words(words):
+    for i, w in enumerate(words):
+        if not re.fullmatch("[0-9a-fA-F]*", w):
+            raise Wrong("wrong: word %d: expected hexadecimal digits, found '%s'" % (i + 1, w))
+    digits = "".join(words)
+    if len(digits) % 2: raise Wrong("wrong: expected two digits for each byte, found an odd number of digits")
+    return bytes.fromhex(digits)
+
+def shell_check(words):
+    try:
+        f = check(hex_words(words))
+    except Wrong as e:
+        return str(e)
+    except Fault as e:
+        return "refused %d place %d layer %d" % e.t
+    return "admitted classes %d processes %d" % (len(f.classes), len(f.procs))
 
 def shell(lines):
     for line in lines:
@@ -551,6 +569,7 @@ def shell(lines):
         if words[0] == "help":
             print(HELP if len(words) == 1 else "wrong: word 1: expected the end of the line, found '%s'" % words[1])
         elif words[0] == "eval": print("\n".join(shell_eval(" ".join(words[1:]))))
+        elif words[0] == "check": print(shell_check(words[1:]))
         else: print("wrong: unknown command '%s'; help lists the commands" % words[0])
 
 if __name__ == "__main__":

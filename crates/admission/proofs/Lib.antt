@@ -1,0 +1,13 @@
+pub mod Oks
+pub mod Ranges
+pub mod Exprs
+pub mod Exchanges
+pub mod Stmts
+pub mod Behs
+pub mod ClassHeads
+pub mod ClassParts
+pub mod FileParts
+pub mod HeadBytes
+pub mod ClassBytes
+pub mod FileBytes
+pub mod Supplied

@@ -1,16 +1,14 @@
 -- Which files are admitted.
-use Prim.Native.Nat.{ℕ, _+_, _<_}
+use Prim.Native.Nat.{ℕ, _+_}
 use mathlib.Core.Path.{_≡_}
 use mathlib.Core.List.{List}
-use lib.ListN.{length, getD}
+use lib.ListN.{length}
 use Rattle.std.specs.declared.result.Result.the-variants.{Ok}
+use Rattle.commands.specs.ByteLists.{Bytes}
 use Rattle.commands.specs.Bytes.{file-bytes, classes-size}
 use Rattle.commands.specs.Trees.{File}
 use Rattle.files.specs.Files.{Summary, check-file}
-use Rattle.admission.specs.Conditions.{Conditions, processes, All}
-
-abbrev pub Bytes : List ℕ → Type 0
-Bytes bs = All (λ b. b < 256) bs
+use Rattle.admission.specs.Conditions.{Conditions, processes}
 
 -- some tree keeps the conditions, and its encoding is those bytes
 abbrev pub Admitted : List ℕ → Type 0

@@ -1,1 +1,7 @@
 pub mod Long
+pub mod Written
+pub mod Shown
+pub mod Encoded
+pub mod Decoded
+pub mod Nodes
+pub mod Unique

@@ -5,3 +5,5 @@ pub mod Behaviours
 pub mod Trees
 pub mod Bytes
 pub mod Stands
+pub mod ByteLists
+pub mod Ranges

@@ -3,7 +3,9 @@ use shell::answer;
 use std::error::AnyError;
 use std::io::ErrorKind;
 
+mod check;
 mod eval;
+mod hex;
 mod shell;
 
 fn run(rt: &LibcRuntime) -> Result<(), AnyError> {

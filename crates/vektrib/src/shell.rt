@@ -1,6 +1,16 @@
 // The commands, by name.
+use crate::check::check;
 use crate::eval::eval;
 use std::error::AnyError;
+
+// What `help` prints.
+const HELP: [&str; 5] = [
+    "help              lists the commands",
+    "eval EXPRESSION   works out an expression in prefix form, as eval ADD 1 MUL 2 3",
+    "                  operations: ADD SUB MUL DIV LESS SAME AND OR NOT",
+    "                  values: numbers, true, false, ?i and ?b for unknown ones",
+    "check HEX         says whether a model file is admitted, or its first fault",
+];
 
 fn help(rt: &LibcRuntime, rest: &[&str]) -> Result<(), AnyError> {
     if let Some(word) = rest.first() {
@@ -10,19 +20,9 @@ fn help(rt: &LibcRuntime, rest: &[&str]) -> Result<(), AnyError> {
         )?;
         return Ok(());
     }
-    println!(rt, "help              lists the commands")?;
-    println!(
-        rt,
-        "eval EXPRESSION   works out an expression in prefix form, as eval ADD 1 MUL 2 3"
-    )?;
-    println!(
-        rt,
-        "                  operations: ADD SUB MUL DIV LESS SAME AND OR NOT"
-    )?;
-    println!(
-        rt,
-        "                  values: numbers, true, false, ?i and ?b for unknown ones"
-    )?;
+    for line in HELP {
+        rt.println(line)?;
+    }
     Ok(())
 }
 
@@ -35,6 +35,7 @@ pub fn answer(rt: &LibcRuntime, line: &str) -> Result<(), AnyError> {
     match *command {
         "help" => help(rt, &words[1..]),
         "eval" => eval(rt, &words[1..]),
+        "check" => check(rt, &words[1..]),
         name => {
             if !name.starts_with('#') {
                 println!(
