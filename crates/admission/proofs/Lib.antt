@@ -11,3 +11,4 @@ pub mod HeadBytes
 pub mod ClassBytes
 pub mod FileBytes
 pub mod Supplied
+pub mod Deciding

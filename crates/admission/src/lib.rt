@@ -1,2 +1,3 @@
-// Which files are admitted: the law above the check.
-pub mod placeholder;
+// Which files are admitted: the law above the check, in the words of the conditions.
+pub mod facts;
+pub mod load;

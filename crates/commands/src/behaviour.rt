@@ -7,8 +7,11 @@ ghost use Rattle.commands.specs.Behaviours.{behaviour-command, command-size};
 use crate::bytes::bytes_from;
 
 pub const PROC: u8 = 0x40;
+
 pub const PAR: u8 = 0x41;
+
 pub const HIDE: u8 = 0x42;
+
 pub const RENAME: u8 = 0x43;
 
 // A command with its operands; `Par` has the place of its second part.
@@ -28,7 +31,12 @@ fn first_behaviour(bytes: &[u8]) -> Option<BehaviourCommand>
     match bytes {
         [PROC, class, ..] => Some(BehaviourCommand::Proc(*class)),
         [PAR, lo, hi, ..] => Some(BehaviourCommand::Par(u16::from_le_bytes([*lo, *hi]))),
-        [HIDE, a, b, c, d, ..] => Some(BehaviourCommand::Hide(u32::from_le_bytes([*a, *b, *c, *d]))),
+        [HIDE, a, b, c, d, ..] => Some(BehaviourCommand::Hide(u32::from_le_bytes([
+            *a,
+            *b,
+            *c,
+            *d,
+        ]))),
         [RENAME, from, to, ..] => Some(BehaviourCommand::Rename(*from, *to)),
         _ => None,
     }

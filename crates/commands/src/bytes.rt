@@ -7,5 +7,9 @@ pub fn bytes_from(file: &[u8], at: usize) -> &[u8]
     ensures { λ r. ⌜ now r ≡ drop at (now (file .entry)) ⌝ }
 {
     let end = file.len();
-    if at < end { &file[at..end] } else { &file[end..end] }
+    if at < end {
+        &file[at..end]
+    } else {
+        &file[end..end]
+    }
 }

@@ -7,13 +7,21 @@ ghost use Rattle.commands.specs.Statements.{statement-command, command-size};
 use crate::bytes::bytes_from;
 
 pub const SKIP: u8 = 0x20;
+
 pub const SET: u8 = 0x21;
+
 pub const SEND: u8 = 0x22;
+
 pub const RECV: u8 = 0x23;
+
 pub const SEQ: u8 = 0x24;
+
 pub const SEL: u8 = 0x25;
+
 pub const GUARD: u8 = 0x26;
+
 pub const IF: u8 = 0x27;
+
 pub const DO: u8 = 0x28;
 
 // A command with its operands. Places are those of the second and the third part.
@@ -38,12 +46,24 @@ fn first_statement(bytes: &[u8]) -> Option<StatementCommand>
     match bytes {
         [SKIP, ..] => Some(StatementCommand::Skip),
         [SET, variable, ..] => Some(StatementCommand::Set(*variable)),
-        [SEND, channel, message, count, ..] => Some(StatementCommand::Send(*channel, *message, *count)),
-        [RECV, channel, message, count, a, b, c, d, ..] => Some(StatementCommand::Recv(*channel, *message, *count, [*a, *b, *c, *d])),
+        [SEND, channel, message, count, ..] => Some(StatementCommand::Send(
+            *channel,
+            *message,
+            *count,
+        )),
+        [RECV, channel, message, count, a, b, c, d, ..] => Some(StatementCommand::Recv(
+            *channel,
+            *message,
+            *count,
+            [*a, *b, *c, *d],
+        )),
         [SEQ, lo, hi, ..] => Some(StatementCommand::Seq(u16::from_le_bytes([*lo, *hi]))),
         [SEL, lo, hi, ..] => Some(StatementCommand::Sel(u16::from_le_bytes([*lo, *hi]))),
         [GUARD, lo, hi, ..] => Some(StatementCommand::Guard(u16::from_le_bytes([*lo, *hi]))),
-        [IF, a, b, c, d, ..] => Some(StatementCommand::If(u16::from_le_bytes([*a, *b]), u16::from_le_bytes([*c, *d]))),
+        [IF, a, b, c, d, ..] => Some(StatementCommand::If(
+            u16::from_le_bytes([*a, *b]),
+            u16::from_le_bytes([*c, *d]),
+        )),
         [DO, lo, hi, ..] => Some(StatementCommand::Do(u16::from_le_bytes([*lo, *hi]))),
         _ => None,
     }

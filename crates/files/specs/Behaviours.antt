@@ -18,21 +18,21 @@ Procs = ℕ × ℕ
 
 abbrev pub check-process : ℕ → ℕ → ℕ → ℕ → Checked Procs
 check-process classes procs at class = do
-    ask (ltb class classes) Operand at Behaviour
-    ask (ltb procs 8) Processes at Behaviour
-    Ok (at + 2, procs + 1)
+  ask (ltb class classes) Operand at Behaviour
+  ask (ltb procs 8) Processes at Behaviour
+  Ok (at + 2, procs + 1)
 
 -- a command's operands and parts, with what the check answers of a part at each place behind so many PROCs
 abbrev pub behaviour-parts : (ℕ → ℕ → Checked Procs) → ℕ → ℕ → ℕ → BehaviourCommand → Checked Procs
 behaviour-parts part classes procs at (Proc class) = check-process classes procs at class
 behaviour-parts part classes procs at (Par place) = do
-    first ← part (at + 3) procs
-    ask (eqb (first .0) place) Command at Behaviour
-    part (first .0) (first .1)
+  first ← part (at + 3) procs
+  ask (eqb (first .0) place) Command at Behaviour
+  part (first .0) (first .1)
 behaviour-parts part classes procs at (Hide set) = part (at + 5) procs
 behaviour-parts part classes procs at (Rename from to) = do
-    ask (ltb from 32 && ltb to 32) Operand at Behaviour
-    part (at + 3) procs
+  ask (ltb from 32 && ltb to 32) Operand at Behaviour
+  part (at + 3) procs
 
 -- the behaviour at a place, at most that many levels deep, over so many classes, behind so many PROCs
 unfoldable pub check-behaviour : ℕ → List ℕ → ℕ → ℕ → ℕ → Checked Procs

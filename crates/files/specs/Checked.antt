@@ -17,7 +17,6 @@ fault k at l = record { kind = k; place = at; layer = l }
 
 infixl 20 _>>=_
 infixl 20 _>>_
-
 abbrev pub _>>=_ : {A B : Type 0} → Checked A → (A → Checked B) → Checked B
 Ok a >>= f = f a
 Err x >>= f = Err x

@@ -39,30 +39,30 @@ check-leaf ks at l = known (leaf-kind ks l) Operand at Expression >>= (λ k. Ok 
 -- the first part of an operation at a place, and then both
 abbrev pub first-fits : Op → ℕ → ℕ → End → Checked (Unit {0})
 first-fits op place at first = do
-    ask (awaited (part-kind op) (first .1)) PartKind (at + 3) Expression
-    ask (eqb (first .0) place) Command at Expression
+  ask (awaited (part-kind op) (first .1)) PartKind (at + 3) Expression
+  ask (eqb (first .0) place) Command at Expression
 
 abbrev pub both-fit : Op → End → End → Checked End
 both-fit op first second = do
-    ask (same-kind (first .1) (second .1)) PartKind (first .0) Expression
-    Ok (second .0, gives op)
+  ask (same-kind (first .1) (second .1)) PartKind (first .0) Expression
+  Ok (second .0, gives op)
 
 abbrev pub one-fits : ℕ → End → Checked End
 one-fits at part = do
-    ask (same-kind Boolean (part .1)) PartKind (at + 1) Expression
-    Ok (part .0, Boolean)
+  ask (same-kind Boolean (part .1)) PartKind (at + 1) Expression
+  Ok (part .0, Boolean)
 
 -- a command's operands and parts, with what the check answers of a part at each place
 abbrev pub expression-parts : (ℕ → Checked End) → List Kind → ℕ → ExpressionCommand → Checked End
 expression-parts part ks at (LeafC l) = check-leaf ks at l
 expression-parts part ks at (Binary op place) = do
-    first ← part (at + 3)
-    first-fits op place at first
-    second ← part (first .0)
-    both-fit op first second
+  first ← part (at + 3)
+  first-fits op place at first
+  second ← part (first .0)
+  both-fit op first second
 expression-parts part ks at Not = do
-    only ← part (at + 1)
-    one-fits at only
+  only ← part (at + 1)
+  one-fits at only
 
 -- the expression at a place, at most that many levels deep, over variables of these kinds
 unfoldable pub check-expression : ℕ → List ℕ → ℕ → List Kind → Checked End

@@ -19,17 +19,17 @@ levels = 32
 -- the body of a class whose bytes begin at a place and end with the list
 abbrev pub check-body : List ℕ → ℕ → Checked (Unit {0})
 check-body f at = do
-    statement ← check-head f at
-    end ← check-statement levels f statement (class-kinds f at) (class-declarations f at)
-    ask (eqb (end .0) (length f)) Command (end .0) StatementL
+  statement ← check-head f at
+  end ← check-statement levels f statement (class-kinds f at) (class-declarations f at)
+  ask (eqb (end .0) (length f)) Command (end .0) StatementL
 
 -- the class at a place, and the place behind it
 abbrev pub check-class : List ℕ → ℕ → Checked ℕ
 check-class f at = do
-    ask (leb (at + 2) (length f)) ClassHead at ClassHeadL
-    ask (leb (at + 2 + word-at f at) (length f)) ClassHead at ClassHeadL
-    check-body (take (at + 2 + word-at f at) f) (at + 2)
-    Ok (at + 2 + word-at f at)
+  ask (leb (at + 2) (length f)) ClassHead at ClassHeadL
+  ask (leb (at + 2 + word-at f at) (length f)) ClassHead at ClassHeadL
+  check-body (take (at + 2 + word-at f at) f) (at + 2)
+  Ok (at + 2 + word-at f at)
 
 abbrev pub check-classes : ℕ → List ℕ → ℕ → Checked ℕ
 check-classes zero f at = Ok at
@@ -41,11 +41,11 @@ first-byte f at b = ask (eqb (byte f at) b) FirstBytes at FileL
 -- the length, and the first four bytes
 abbrev pub check-header : List ℕ → Checked (Unit {0})
 check-header f = do
-    ask (leb 4 (length f) && leb (length f) 4096) Length 0 FileL
-    first-byte f 0 0x50
-    first-byte f 1 0x53
-    first-byte f 2 0x01
-    ask (leb 1 (byte f 3) && leb (byte f 3) 8) FirstBytes 3 FileL
+  ask (leb 4 (length f) && leb (length f) 4096) Length 0 FileL
+  first-byte f 0 0x50
+  first-byte f 1 0x53
+  first-byte f 2 0x01
+  ask (leb 1 (byte f 3) && leb (byte f 3) 8) FirstBytes 3 FileL
 
 -- the number of classes behind a good header
 abbrev pub header-classes : List ℕ → Checked ℕ
@@ -57,8 +57,8 @@ Summary = ℕ × ℕ × ℕ
 
 abbrev pub check-file : List ℕ → Checked Summary
 check-file f = do
-    check-header f
-    at ← check-classes (byte f 3) f 4
-    end ← check-behaviour levels f (byte f 3) at 0
-    ask (eqb (end .0) (length f)) Command (end .0) BehaviourL
-    Ok (byte f 3, at, end .1)
+  check-header f
+  at ← check-classes (byte f 3) f 4
+  end ← check-behaviour levels f (byte f 3) at 0
+  ask (eqb (end .0) (length f)) Command (end .0) BehaviourL
+  Ok (byte f 3, at, end .1)

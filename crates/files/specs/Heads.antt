@@ -55,7 +55,8 @@ declaration-at f at =
       receives = eqb (byte f at) 1;
       channel = byte f (at + 1);
       message = byte f (at + 2);
-      kinds = value-kinds (byte f (at + 3)) f (at + 4) }
+      kinds = value-kinds (byte f (at + 3)) f (at + 4);
+    }
 
 abbrev pub declarations-at : ℕ → List ℕ → ℕ → List Declaration
 declarations-at zero f at = []
@@ -64,8 +65,8 @@ declarations-at (suc n) f at = declaration-at f at ∷ declarations-at n f (at +
 -- a field of some bytes at a place lies within the class and its bounds
 abbrev pub field : List ℕ → ℕ → ℕ → Bool → Checked (Unit {0})
 field f at size good = do
-    ask (leb (at + size) (length f)) ClassHead at ClassHeadL
-    ask good ClassHead at ClassHeadL
+  ask (leb (at + size) (length f)) ClassHead at ClassHeadL
+  ask good ClassHead at ClassHeadL
 
 abbrev pub is-kind : ℕ → Bool
 is-kind b = eqb b 1 || eqb b 2
@@ -73,9 +74,9 @@ is-kind b = eqb b 1 || eqb b 2
 -- kind, known, start value
 abbrev pub check-variable : List ℕ → ℕ → Checked (Unit {0})
 check-variable f at = do
-    field f at 1 (is-kind (byte f at))
-    field f (at + 1) 1 (ltb (byte f (at + 1)) 2)
-    field f (at + 2) 4 (valid (row-at f at))
+  field f at 1 (is-kind (byte f at))
+  field f (at + 1) 1 (ltb (byte f (at + 1)) 2)
+  field f (at + 2) 4 (valid (row-at f at))
 
 -- some variables, and the place behind them
 abbrev pub check-variables : ℕ → List ℕ → ℕ → Checked ℕ
@@ -91,19 +92,19 @@ check-kind f at i = field f (at + 4 + i) 1 (kind-fits i (byte f (at + 3)) (byte 
 -- direction, channel, message, number of values
 abbrev pub check-exchange : List ℕ → ℕ → Checked (Unit {0})
 check-exchange f at = do
-    field f at 1 (ltb (byte f at) 2)
-    field f (at + 1) 1 (ltb (byte f (at + 1)) 32)
-    field f (at + 2) 1 (ltb (byte f (at + 2)) 255)
-    field f (at + 3) 1 (ltb (byte f (at + 3)) 5)
+  field f at 1 (ltb (byte f at) 2)
+  field f (at + 1) 1 (ltb (byte f (at + 1)) 32)
+  field f (at + 2) 1 (ltb (byte f (at + 2)) 255)
+  field f (at + 3) 1 (ltb (byte f (at + 3)) 5)
 
 -- those, and four kinds
 abbrev pub check-declaration : List ℕ → ℕ → Checked (Unit {0})
 check-declaration f at = do
-    check-exchange f at
-    check-kind f at 0
-    check-kind f at 1
-    check-kind f at 2
-    check-kind f at 3
+  check-exchange f at
+  check-kind f at 0
+  check-kind f at 1
+  check-kind f at 2
+  check-kind f at 3
 
 abbrev pub check-declarations : ℕ → List ℕ → ℕ → Checked ℕ
 check-declarations n f at = repeated (check-declaration f) 8 n at
@@ -111,10 +112,10 @@ check-declarations n f at = repeated (check-declaration f) 8 n at
 -- a class whose bytes begin at a place: the place of its statement
 abbrev pub check-head : List ℕ → ℕ → Checked ℕ
 check-head f at = do
-    field f at 1 (ltb (byte f at) 9)
-    next ← check-variables (byte f at) f (at + 1)
-    field f next 1 (ltb (byte f next) 17)
-    check-declarations (byte f next) f (next + 1)
+  field f at 1 (ltb (byte f at) 9)
+  next ← check-variables (byte f at) f (at + 1)
+  field f next 1 (ltb (byte f next) 17)
+  check-declarations (byte f next) f (next + 1)
 
 -- the kinds and declarations of the class whose bytes begin at a place
 abbrev pub class-kinds : List ℕ → ℕ → List Kind

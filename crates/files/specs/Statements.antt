@@ -78,16 +78,16 @@ exchange receives channel message kinds = record { receives = receives; channel 
 abbrev pub check-values : ℕ → (ℕ → Checked End) → ℕ → Checked (ℕ × List Kind)
 check-values zero value at = Ok (at, [])
 check-values (suc n) value at = do
-    first ← value at
-    rest ← check-values n value (first .0)
-    Ok (rest .0, first .1 ∷ rest .1)
+  first ← value at
+  rest ← check-values n value (first .0)
+  Ok (rest .0, first .1 ∷ rest .1)
 
 -- a Boolean at a place
 abbrev pub check-test : (ℕ → Checked End) → ℕ → Checked ℕ
 check-test value at = do
-    test ← value at
-    ask (same-kind Boolean (test .1)) PartKind at Expression
-    Ok (test .0)
+  test ← value at
+  ask (same-kind Boolean (test .1)) PartKind at Expression
+  Ok (test .0)
 
 -- a place operand of the command at a place
 abbrev pub placed : ℕ → ℕ → ℕ → Checked (Unit {0})
@@ -95,31 +95,31 @@ placed at end place = ask (eqb end place) Command at Statement
 
 abbrev pub few-fronts : ℕ → Behind → Checked Behind
 few-fronts at end = do
-    ask (leb (end .1) 8) Fronts at Statement
-    Ok end
+  ask (leb (end .1) 8) Fronts at Statement
+  Ok end
 
 -- SET: the variable exists, and the value has its kind
 abbrev pub check-set : (ℕ → Checked End) → List Kind → ℕ → ℕ → Checked Behind
 check-set value ks at v = do
-    kind ← known (nth ks v) Operand at Statement
-    end ← value (at + 2)
-    ask (same-kind kind (end .1)) PartKind (at + 2) Expression
-    Ok (end .0, 1)
+  kind ← known (nth ks v) Operand at Statement
+  end ← value (at + 2)
+  ask (same-kind kind (end .1)) PartKind (at + 2) Expression
+  Ok (end .0, 1)
 
 -- SEND: operands within bounds, the values, and a declaration of their kinds
 abbrev pub check-send : (ℕ → Checked End) → List Declaration → ℕ → ℕ → ℕ → ℕ → Checked Behind
 check-send value ds at channel message count = do
-    ask (exchange-fits channel message count) Operand at Statement
-    values ← check-values count value (at + 4)
-    ask (declared (exchange false channel message (values .1)) ds) Undeclared at Statement
-    Ok (values .0, 1)
+  ask (exchange-fits channel message count) Operand at Statement
+  values ← check-values count value (at + 4)
+  ask (declared (exchange false channel message (values .1)) ds) Undeclared at Statement
+  Ok (values .0, 1)
 
 -- RECV: operands within bounds, and a declaration of the variables' kinds
 abbrev pub check-receive : List Kind → List Declaration → ℕ → ℕ → ℕ → ℕ → List ℕ → Checked Behind
 check-receive ks ds at channel message count vs = do
-    ask (exchange-fits channel message count && variables-fit (length ks) count vs) Operand at Statement
-    ask (declared (exchange true channel message (kinds-of ks (take count vs))) ds) Undeclared at Statement
-    Ok (at + 8, 1)
+  ask (exchange-fits channel message count && variables-fit (length ks) count vs) Operand at Statement
+  ask (declared (exchange true channel message (kinds-of ks (take count vs))) ds) Undeclared at Statement
+  Ok (at + 8, 1)
 
 -- a command's operands and parts, with what the checks answer of an expression and of a statement at each place
 abbrev pub statement-parts : (ℕ → Checked End) → (ℕ → Checked Behind) → List Kind → List Declaration → ℕ → StatementCommand → Checked Behind
@@ -128,31 +128,31 @@ statement-parts value part ks ds at (Set v) = check-set value ks at v
 statement-parts value part ks ds at (Send channel message count) = check-send value ds at channel message count
 statement-parts value part ks ds at (Recv channel message count vs) = check-receive ks ds at channel message count vs
 statement-parts value part ks ds at (Seq place) = do
-    first ← part (at + 3)
-    placed at (first .0) place
-    second ← part (first .0)
-    Ok (second .0, first .1)
+  first ← part (at + 3)
+  placed at (first .0) place
+  second ← part (first .0)
+  Ok (second .0, first .1)
 statement-parts value part ks ds at (Sel place) = do
-    first ← part (at + 3)
-    placed at (first .0) place
-    second ← part (first .0)
-    Ok (second .0, first .1 + second .1)
+  first ← part (at + 3)
+  placed at (first .0) place
+  second ← part (first .0)
+  Ok (second .0, first .1 + second .1)
 statement-parts value part ks ds at (Guard place) = do
-    test ← check-test value (at + 3)
-    placed at test place
-    part test
+  test ← check-test value (at + 3)
+  placed at test place
+  part test
 statement-parts value part ks ds at (If place other) = do
-    test ← check-test value (at + 5)
-    placed at test place
-    first ← part test
-    placed at (first .0) other
-    second ← part (first .0)
-    Ok (second .0, 2)
+  test ← check-test value (at + 5)
+  placed at test place
+  first ← part test
+  placed at (first .0) other
+  second ← part (first .0)
+  Ok (second .0, 2)
 statement-parts value part ks ds at (Do place) = do
-    test ← check-test value (at + 3)
-    placed at test place
-    end ← part test
-    Ok (end .0, 2)
+  test ← check-test value (at + 3)
+  placed at test place
+  end ← part test
+  Ok (end .0, 2)
 
 -- the statement at a place, at most that many levels deep, in a class of these variables and declarations
 unfoldable pub check-statement : ℕ → List ℕ → ℕ → List Kind → List Declaration → Checked Behind

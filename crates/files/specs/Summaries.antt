@@ -15,7 +15,8 @@ abbrev pub scope-at : List ℕ → ℕ → Scope
 scope-at f at =
     record {
       variables = record { at = at + 1; count = byte f at };
-      declarations = record { at = declarations-place f at + 1; count = byte f (declarations-place f at) } }
+      declarations = record { at = declarations-place f at + 1; count = byte f (declarations-place f at) };
+    }
 
 abbrev pub summed : Result Summary LoadFault → Checked files.Summary
 summed (Ok s) = Ok (s .classes, s .behaviour, s .processes)

@@ -29,7 +29,12 @@ fn check_process(classes: u8, procs: u8, at: usize, class: u8) -> Result<(usize,
     ensures end { λ r. ⌜ made r (λ v. v .0 ≡ at + 2) ⌝ }
 {
     ask(class < classes, FaultKind::Operand, at, Layer::Behaviour)?;
-    ask(procs < PROCESSES, FaultKind::Processes, at, Layer::Behaviour)?;
+    ask(
+        procs < PROCESSES,
+        FaultKind::Processes,
+        at,
+        Layer::Behaviour,
+    )?;
     Ok((at + 2, procs + 1))
 }
 
@@ -37,11 +42,22 @@ fn check_process(classes: u8, procs: u8, at: usize, class: u8) -> Result<(usize,
 fn channels_fit(from: u8, to: u8, at: usize) -> Result<(), LoadFault>
     ensures { λ r. ⌜ r ≡ asked (ltb from 32 && ltb to 32) Operand at Behaviour ⌝ }
 {
-    ask(from < CHANNELS && to < CHANNELS, FaultKind::Operand, at, Layer::Behaviour)
+    ask(
+        from < CHANNELS && to < CHANNELS,
+        FaultKind::Operand,
+        at,
+        Layer::Behaviour,
+    )
 }
 
 // The place behind the behaviour at `at`, and the PROCs up to there; it may nest `left` deep.
-pub(crate) fn check_behaviour(file: &[u8], classes: u8, at: usize, left: u8, procs: u8) -> Result<(usize, u8), LoadFault>
+pub(crate) fn check_behaviour(
+    file: &[u8],
+    classes: u8,
+    at: usize,
+    left: u8,
+    procs: u8,
+) -> Result<(usize, u8), LoadFault>
     requires { ⌜ at ≤ length (now file) ⌝ }
     ensures exact { λ r. ⌜ r ≡ check-behaviour left (now (file .entry)) classes at procs ⌝ }
     ensures within { λ r. ⌜ made r (λ v. (at < v .0) × (v .0 ≤ length (now (file .entry)))) ⌝ }
@@ -56,7 +72,12 @@ pub(crate) fn check_behaviour(file: &[u8], classes: u8, at: usize, left: u8, pro
         BehaviourCommand::Proc(class) => check_process(classes, procs, at, class),
         BehaviourCommand::Par(place) => {
             let first = check_behaviour(file, classes, at + 3, left - 1, procs)?;
-            ask(first.0 == place as usize, FaultKind::Command, at, Layer::Behaviour)?;
+            ask(
+                first.0 == place as usize,
+                FaultKind::Command,
+                at,
+                Layer::Behaviour,
+            )?;
             check_behaviour(file, classes, first.0, left - 1, first.1)
         }
         BehaviourCommand::Hide(_) => check_behaviour(file, classes, at + 5, left - 1, procs),

@@ -25,7 +25,12 @@ pub(crate) fn integer_at(file: &[u8], at: usize) -> i32
     requires { ⌜ at ≤ length (now file) + 2 ⌝ }
     ensures { λ r. ⌜ r ≡ integer-at (now (file .entry)) at ⌝ }
 {
-    let bytes = [byte_at(file, at), byte_at(file, at + 1), byte_at(file, at + 2), byte_at(file, at + 3)];
+    let bytes = [
+        byte_at(file, at),
+        byte_at(file, at + 1),
+        byte_at(file, at + 2),
+        byte_at(file, at + 3),
+    ];
     i32::from_le_bytes(bytes)
 }
 
@@ -34,5 +39,9 @@ pub(crate) fn row_at(file: &[u8], at: usize) -> Row
     requires { ⌜ at ≤ length (now file) ⌝ }
     ensures { λ r. ⌜ r ≡ row-at (now (file .entry)) at ⌝ }
 {
-    Row { kind: byte_at(file, at), known: byte_at(file, at + 1), number: integer_at(file, at + 2) }
+    Row {
+        kind: byte_at(file, at),
+        known: byte_at(file, at + 1),
+        number: integer_at(file, at + 2),
+    }
 }

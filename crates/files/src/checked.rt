@@ -12,8 +12,17 @@ pub(crate) fn fault(kind: FaultKind, place: usize, layer: Layer) -> LoadFault
 }
 
 // Goes on where the test is passed.
-pub(crate) fn ask(passed: bool, kind: FaultKind, place: usize, layer: Layer) -> Result<(), LoadFault>
+pub(crate) fn ask(
+    passed: bool,
+    kind: FaultKind,
+    place: usize,
+    layer: Layer,
+) -> Result<(), LoadFault>
     ensures { λ r. ⌜ r ≡ asked passed kind place layer ⌝ }
 {
-    if passed { Ok(()) } else { Err(fault(kind, place, layer)) }
+    if passed {
+        Ok(())
+    } else {
+        Err(fault(kind, place, layer))
+    }
 }

@@ -40,7 +40,14 @@ fn same_kinds(file: &[u8], at: usize, count: u8, kinds: &[Kind]) -> bool
 }
 
 // Whether the declaration at a place is this one.
-fn same_declaration(file: &[u8], at: usize, receives: bool, channel: u8, message: u8, kinds: &[Kind]) -> bool
+fn same_declaration(
+    file: &[u8],
+    at: usize,
+    receives: bool,
+    channel: u8,
+    message: u8,
+    kinds: &[Kind],
+) -> bool
     requires { ⌜ at ≤ length (now file) ⌝ }
     ensures { λ r. ⌜ r ≡ same-declaration (exchange receives channel message (now (kinds .entry))) (declaration-at (now (file .entry)) at) ⌝ }
 {
@@ -52,12 +59,26 @@ fn same_declaration(file: &[u8], at: usize, receives: bool, channel: u8, message
 
 impl Declarations {
     // Whether one of them is this one.
-    pub(crate) fn declare(self, file: &[u8], receives: bool, channel: u8, message: u8, kinds: &[Kind]) -> bool
+    pub(crate) fn declare(
+        self,
+        file: &[u8],
+        receives: bool,
+        channel: u8,
+        message: u8,
+        kinds: &[Kind],
+    ) -> bool
         requires { ⌜ self .at + 8 * self .count ≤ length (now file) ⌝ }
         ensures { λ r. ⌜ r ≡ is-declared (exchange receives channel message (now (kinds .entry))) (declarations-at (self .count) (now (file .entry)) (self .at)) ⌝ }
     {
         for i in 0..self.count {
-            if same_declaration(file, self.at + 8 * i as usize, receives, channel, message, kinds) {
+            if same_declaration(
+                file,
+                self.at + 8 * i as usize,
+                receives,
+                channel,
+                message,
+                kinds,
+            ) {
                 return true;
             }
         }

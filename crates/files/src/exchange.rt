@@ -31,7 +31,13 @@ pub struct Scope {
 }
 
 // Some values one after the other: the place behind them, and their kinds.
-fn check_values(file: &[u8], at: usize, left: u8, variables: Variables, count: u8) -> Result<(usize, Kinds), LoadFault>
+fn check_values(
+    file: &[u8],
+    at: usize,
+    left: u8,
+    variables: Variables,
+    count: u8,
+) -> Result<(usize, Kinds), LoadFault>
     requires place { ⌜ at ≤ length (now file) ⌝ }
     requires head { ⌜ variables .at + 6 * variables .count ≤ length (now file) ⌝ }
     requires few { ⌜ count ≤ 4 ⌝ }
@@ -72,7 +78,13 @@ fn received_kinds(file: &[u8], variables: Variables, list: &[u8]) -> Kinds
 }
 
 // SET: the variable exists, and the value has its kind.
-pub(crate) fn check_set(file: &[u8], at: usize, left: u8, scope: Scope, variable: u8) -> Result<(usize, u8), LoadFault>
+pub(crate) fn check_set(
+    file: &[u8],
+    at: usize,
+    left: u8,
+    scope: Scope,
+    variable: u8,
+) -> Result<(usize, u8), LoadFault>
     requires place { ⌜ at + 2 ≤ length (now file) ⌝ }
     requires scope { ⌜ Within (now file) scope ⌝ }
     ensures exact { λ r. ⌜ r ≡ check-set (λ p. check-expression left (now (file .entry)) p (kinds-at (scope .variables .count) (now (file .entry)) (scope .variables .at))) (kinds-at (scope .variables .count) (now (file .entry)) (scope .variables .at)) at variable ⌝ }
@@ -82,12 +94,25 @@ pub(crate) fn check_set(file: &[u8], at: usize, left: u8, scope: Scope, variable
         return Err(fault(FaultKind::Operand, at, Layer::Statement));
     };
     let end = check_expression(file, at + 2, left, scope.variables)?;
-    ask(kind == end.1, FaultKind::PartKind, at + 2, Layer::Expression)?;
+    ask(
+        kind == end.1,
+        FaultKind::PartKind,
+        at + 2,
+        Layer::Expression,
+    )?;
     Ok((end.0, 1))
 }
 
 // SEND: operands within bounds, the values, and a declaration of their kinds.
-pub(crate) fn check_send(file: &[u8], at: usize, left: u8, scope: Scope, channel: u8, message: u8, count: u8) -> Result<(usize, u8), LoadFault>
+pub(crate) fn check_send(
+    file: &[u8],
+    at: usize,
+    left: u8,
+    scope: Scope,
+    channel: u8,
+    message: u8,
+    count: u8,
+) -> Result<(usize, u8), LoadFault>
     requires place { ⌜ at + 4 ≤ length (now file) ⌝ }
     requires scope { ⌜ Within (now file) scope ⌝ }
     ensures exact { λ r. ⌜ r ≡ check-send (λ p. check-expression left (now (file .entry)) p (kinds-at (scope .variables .count) (now (file .entry)) (scope .variables .at))) (declarations-at (scope .declarations .count) (now (file .entry)) (scope .declarations .at)) at channel message count ⌝ }
@@ -97,13 +122,23 @@ pub(crate) fn check_send(file: &[u8], at: usize, left: u8, scope: Scope, channel
         return Err(fault(FaultKind::Operand, at, Layer::Statement));
     }
     let values = check_values(file, at + 4, left, scope.variables, count)?;
-    let declared = scope.declarations.declare(file, false, channel, message, values.1.as_slice());
+    let declared = scope
+        .declarations
+        .declare(file, false, channel, message, values.1.as_slice());
     ask(declared, FaultKind::Undeclared, at, Layer::Statement)?;
     Ok((values.0, 1))
 }
 
 // RECV: operands within bounds, and a declaration of the variables' kinds.
-pub(crate) fn check_receive(file: &[u8], at: usize, scope: Scope, channel: u8, message: u8, count: u8, list: &[u8]) -> Result<(usize, u8), LoadFault>
+pub(crate) fn check_receive(
+    file: &[u8],
+    at: usize,
+    scope: Scope,
+    channel: u8,
+    message: u8,
+    count: u8,
+    list: &[u8],
+) -> Result<(usize, u8), LoadFault>
     requires place { ⌜ at + 8 ≤ length (now file) ⌝ }
     requires scope { ⌜ Within (now file) scope ⌝ }
     requires four { ⌜ length (now list) ≡ 4 ⌝ }
@@ -114,7 +149,9 @@ pub(crate) fn check_receive(file: &[u8], at: usize, scope: Scope, channel: u8, m
         return Err(fault(FaultKind::Operand, at, Layer::Statement));
     }
     let kinds = received_kinds(file, scope.variables, &list[0..count as usize]);
-    let declared = scope.declarations.declare(file, true, channel, message, kinds.as_slice());
+    let declared = scope
+        .declarations
+        .declare(file, true, channel, message, kinds.as_slice());
     ask(declared, FaultKind::Undeclared, at, Layer::Statement)?;
     Ok((at + 8, 1))
 }

@@ -26,18 +26,17 @@ fn leaf_kind(leaf: Leaf, file: &[u8], variables: Variables) -> Option<Kind>
 {
     match leaf {
         Leaf::Int(_) | Leaf::Iunk => Some(Kind::Integer),
-        Leaf::Bool(truth) => {
-            if truth < 3 {
-                Some(Kind::Boolean)
-            } else {
-                None
-            }
-        }
+        Leaf::Bool(truth) => { if truth < 3 { Some(Kind::Boolean) } else { None } }
         Leaf::Var(variable) => variables.kind(file, variable),
     }
 }
 
-fn check_leaf(leaf: Leaf, at: usize, file: &[u8], variables: Variables) -> Result<(usize, Kind), LoadFault>
+fn check_leaf(
+    leaf: Leaf,
+    at: usize,
+    file: &[u8],
+    variables: Variables,
+) -> Result<(usize, Kind), LoadFault>
     requires place { ⌜ at + leaf-size leaf < 2 ^ 64 ⌝ }
     requires head { ⌜ variables .at + 6 * variables .count ≤ length (now file) ⌝ }
     ensures exact { λ r. ⌜ r ≡ check-leaf (kinds-at (variables .count) (now (file .entry)) (variables .at)) at leaf ⌝ }
@@ -54,8 +53,18 @@ fn first_fits(op: Op, place: u16, at: usize, first: (usize, Kind)) -> Result<(),
     requires { ⌜ at + 3 < 2 ^ 64 ⌝ }
     ensures { λ r. ⌜ r ≡ first-fits op place at first ⌝ }
 {
-    ask(first.1.is_awaited(op.part_kind()), FaultKind::PartKind, at + 3, Layer::Expression)?;
-    ask(first.0 == place as usize, FaultKind::Command, at, Layer::Expression)
+    ask(
+        first.1.is_awaited(op.part_kind()),
+        FaultKind::PartKind,
+        at + 3,
+        Layer::Expression,
+    )?;
+    ask(
+        first.0 == place as usize,
+        FaultKind::Command,
+        at,
+        Layer::Expression,
+    )
 }
 
 // Whether the second part has the kind of the first.
@@ -63,7 +72,12 @@ fn both_fit(op: Op, first: (usize, Kind), second: (usize, Kind)) -> Result<(usiz
     ensures exact { λ r. ⌜ r ≡ both-fit op first second ⌝ }
     ensures end { λ r. ⌜ made r (λ v. v .0 ≡ second .0) ⌝ }
 {
-    ask(first.1 == second.1, FaultKind::PartKind, first.0, Layer::Expression)?;
+    ask(
+        first.1 == second.1,
+        FaultKind::PartKind,
+        first.0,
+        Layer::Expression,
+    )?;
     Ok((second.0, op.gives()))
 }
 
@@ -73,12 +87,22 @@ fn one_fits(at: usize, part: (usize, Kind)) -> Result<(usize, Kind), LoadFault>
     ensures exact { λ r. ⌜ r ≡ one-fits at part ⌝ }
     ensures end { λ r. ⌜ made r (λ v. v .0 ≡ part .0) ⌝ }
 {
-    ask(Kind::Boolean == part.1, FaultKind::PartKind, at + 1, Layer::Expression)?;
+    ask(
+        Kind::Boolean == part.1,
+        FaultKind::PartKind,
+        at + 1,
+        Layer::Expression,
+    )?;
     Ok((part.0, Kind::Boolean))
 }
 
 // The place behind the expression at `at` and its kind; it may nest `left` deep.
-pub(crate) fn check_expression(file: &[u8], at: usize, left: u8, variables: Variables) -> Result<(usize, Kind), LoadFault>
+pub(crate) fn check_expression(
+    file: &[u8],
+    at: usize,
+    left: u8,
+    variables: Variables,
+) -> Result<(usize, Kind), LoadFault>
     requires place { ⌜ at ≤ length (now file) ⌝ }
     requires head { ⌜ variables .at + 6 * variables .count ≤ length (now file) ⌝ }
     ensures exact { λ r. ⌜ r ≡ check-expression left (now (file .entry)) at (kinds-at (variables .count) (now (file .entry)) (variables .at)) ⌝ }

@@ -40,8 +40,14 @@ fn scope_at(file: &[u8], at: usize) -> Scope
     let count = byte_at(file, at);
     let place = at + 1 + 6 * count as usize;
     let variables = Variables { at: at + 1, count };
-    let declarations = Declarations { at: place + 1, count: byte_at(file, place) };
-    Scope { variables, declarations }
+    let declarations = Declarations {
+        at: place + 1,
+        count: byte_at(file, place),
+    };
+    Scope {
+        variables,
+        declarations,
+    }
 }
 
 // Head and statement of the class whose bytes begin at `at` and end with the slice.
@@ -51,7 +57,12 @@ fn check_body(file: &[u8], at: usize) -> Result<(), LoadFault>
 {
     let statement = check_head(file, at)?;
     let end = check_statement(file, statement, LEVELS, scope_at(file, at))?;
-    ask(end.0 == file.len(), FaultKind::Command, end.0, Layer::Statement)
+    ask(
+        end.0 == file.len(),
+        FaultKind::Command,
+        end.0,
+        Layer::Statement,
+    )
 }
 
 // The class at a place, and the place behind it.
@@ -96,7 +107,12 @@ fn check_header(file: &[u8]) -> Result<u8, LoadFault>
     ask(*first == 0x50, FaultKind::FirstBytes, 0, Layer::File)?;
     ask(*second == 0x53, FaultKind::FirstBytes, 1, Layer::File)?;
     ask(*third == 0x01, FaultKind::FirstBytes, 2, Layer::File)?;
-    ask(*classes >= 1 && *classes <= 8, FaultKind::FirstBytes, 3, Layer::File)?;
+    ask(
+        *classes >= 1 && *classes <= 8,
+        FaultKind::FirstBytes,
+        3,
+        Layer::File,
+    )?;
     Ok(*classes)
 }
 
@@ -107,6 +123,15 @@ pub fn check_file(file: &[u8]) -> Result<Summary, LoadFault>
     let classes = check_header(file)?;
     let behaviour = check_classes(file, classes, 4)?;
     let end = check_behaviour(file, classes, behaviour, LEVELS, 0)?;
-    ask(end.0 == file.len(), FaultKind::Command, end.0, Layer::Behaviour)?;
-    Ok(Summary { classes, behaviour, processes: end.1 })
+    ask(
+        end.0 == file.len(),
+        FaultKind::Command,
+        end.0,
+        Layer::Behaviour,
+    )?;
+    Ok(Summary {
+        classes,
+        behaviour,
+        processes: end.1,
+    })
 }

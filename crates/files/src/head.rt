@@ -17,7 +17,12 @@ fn field(file: &[u8], at: usize, size: usize, good: bool) -> Result<(), LoadFaul
     ensures exact { λ r. ⌜ r ≡ field-of (now (file .entry)) at size good ⌝ }
     ensures within { λ r. ⌜ made r (λ _. at + size ≤ length (now (file .entry))) ⌝ }
 {
-    ask(at + size <= file.len(), FaultKind::ClassHead, at, Layer::ClassHead)?;
+    ask(
+        at + size <= file.len(),
+        FaultKind::ClassHead,
+        at,
+        Layer::ClassHead,
+    )?;
     ask(good, FaultKind::ClassHead, at, Layer::ClassHead)
 }
 
@@ -52,7 +57,12 @@ fn check_kind(file: &[u8], at: usize, i: u8) -> Result<(), LoadFault>
     ensures within { λ r. ⌜ made r (λ _. at + 4 + i + 1 ≤ length (now (file .entry))) ⌝ }
 {
     let place = at + 4 + i as usize;
-    field(file, place, 1, kind_fits(i, byte_at(file, at + 3), byte_at(file, place)))
+    field(
+        file,
+        place,
+        1,
+        kind_fits(i, byte_at(file, at + 3), byte_at(file, place)),
+    )
 }
 
 // Direction, channel, message and number of values.

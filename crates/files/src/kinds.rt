@@ -16,7 +16,10 @@ impl Kinds {
         ensures list { λ r. ⌜ kinds-list r ≡ [] ⌝ }
         ensures count { λ r. ⌜ r .count ≡ 0 ⌝ }
     {
-        Kinds { count: 0, kinds: [Kind::Integer; 4] }
+        Kinds {
+            count: 0,
+            kinds: [Kind::Integer; 4],
+        }
     }
 
     // One kind more.

@@ -2,9 +2,9 @@
 pub(crate) mod behaviour;
 pub(crate) mod bytes;
 pub(crate) mod checked;
+pub mod declarations;
 pub mod exchange;
 pub(crate) mod expression;
-pub mod declarations;
 pub mod fault;
 pub mod file;
 pub(crate) mod head;

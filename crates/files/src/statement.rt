@@ -34,7 +34,12 @@ fn check_test(file: &[u8], at: usize, left: u8, variables: Variables) -> Result<
     ensures within { λ r. ⌜ made r (λ v. (at < v) × (v ≤ length (now (file .entry)))) ⌝ }
 {
     let test = check_expression(file, at, left, variables)?;
-    ask(Kind::Boolean == test.1, FaultKind::PartKind, at, Layer::Expression)?;
+    ask(
+        Kind::Boolean == test.1,
+        FaultKind::PartKind,
+        at,
+        Layer::Expression,
+    )?;
     Ok(test.0)
 }
 
@@ -42,7 +47,12 @@ fn check_test(file: &[u8], at: usize, left: u8, variables: Variables) -> Result<
 fn placed(at: usize, end: usize, place: u16) -> Result<(), LoadFault>
     ensures { λ r. ⌜ r ≡ placed-at at end place ⌝ }
 {
-    ask(end == place as usize, FaultKind::Command, at, Layer::Statement)
+    ask(
+        end == place as usize,
+        FaultKind::Command,
+        at,
+        Layer::Statement,
+    )
 }
 
 fn few_fronts(at: usize, end: (usize, u8)) -> Result<(usize, u8), LoadFault>
@@ -54,7 +64,12 @@ fn few_fronts(at: usize, end: (usize, u8)) -> Result<(usize, u8), LoadFault>
 }
 
 // The place behind the statement at `at`, and the most fronts that it can have; it may nest `left` deep.
-pub(crate) fn check_statement(file: &[u8], at: usize, left: u8, scope: Scope) -> Result<(usize, u8), LoadFault>
+pub(crate) fn check_statement(
+    file: &[u8],
+    at: usize,
+    left: u8,
+    scope: Scope,
+) -> Result<(usize, u8), LoadFault>
     requires place { ⌜ at ≤ length (now file) ⌝ }
     requires scope { ⌜ Within (now file) scope ⌝ }
     ensures exact { λ r. ⌜ r ≡ check-statement left (now (file .entry)) at (kinds-at (scope .variables .count) (now (file .entry)) (scope .variables .at)) (declarations-at (scope .declarations .count) (now (file .entry)) (scope .declarations .at)) ⌝ }

@@ -18,7 +18,11 @@ pub struct Variables {
 pub(crate) fn kind_at(file: &[u8], at: usize) -> Kind
     ensures { λ r. ⌜ r ≡ kind-at (now (file .entry)) at ⌝ }
 {
-    if byte_at(file, at) == 2 { Kind::Boolean } else { Kind::Integer }
+    if byte_at(file, at) == 2 {
+        Kind::Boolean
+    } else {
+        Kind::Integer
+    }
 }
 
 impl Variables {

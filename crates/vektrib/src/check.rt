@@ -8,9 +8,15 @@ use std::error::AnyError;
 pub fn print_hex_fault(rt: &LibcRuntime, words: &[&str], fault: HexFault) -> Result<(), AnyError> {
     match fault {
         HexFault::Memory => println!(rt, "wrong: there is not enough memory for this line")?,
-        HexFault::Odd => println!(rt, "wrong: expected two digits for each byte, found an odd number of digits")?,
+        HexFault::Odd => println!(
+            rt,
+            "wrong: expected two digits for each byte, found an odd number of digits"
+        )?,
         HexFault::Digit(word) => match words.get(word.saturating_sub(1)) {
-            Some(text) => println!(rt, "wrong: word {word}: expected hexadecimal digits, found '{text}'")?,
+            Some(text) => println!(
+                rt,
+                "wrong: word {word}: expected hexadecimal digits, found '{text}'"
+            )?,
             None => println!(rt, "wrong: word {word}: expected hexadecimal digits")?,
         },
     }

@@ -7,4 +7,5 @@ pub returns : need.returns
 returns c =
     record {
       exact = c .first-behaviour .ensures .exact ∙ ap behaviour-command (c .bytes-from .ensures);
-      long = within command-size behaviour-some _ (c .args .file .now) _ (c .args .at) (c .bytes-from .ensures) (c .first-behaviour .ensures .long) }
+      long = within command-size behaviour-some _ (c .args .file .now) _ (c .args .at) (c .bytes-from .ensures) (c .first-behaviour .ensures .long);
+    }

@@ -7,4 +7,5 @@ pub returns : need.returns
 returns c =
     record {
       exact = c .first-expression .ensures .exact ∙ ap expression-command (c .bytes-from .ensures);
-      long = within command-size expression-some _ (c .args .file .now) _ (c .args .at) (c .bytes-from .ensures) (c .first-expression .ensures .long) }
+      long = within command-size expression-some _ (c .args .file .now) _ (c .args .at) (c .bytes-from .ensures) (c .first-expression .ensures .long);
+    }

@@ -7,4 +7,5 @@ pub returns : need.returns
 returns c =
     record {
       exact = c .first-statement .ensures .exact ∙ ap statement-command (c .bytes-from .ensures);
-      long = within command-size statement-some _ (c .args .file .now) _ (c .args .at) (c .bytes-from .ensures) (c .first-statement .ensures .long) }
+      long = within command-size statement-some _ (c .args .file .now) _ (c .args .at) (c .bytes-from .ensures) (c .first-statement .ensures .long);
+    }

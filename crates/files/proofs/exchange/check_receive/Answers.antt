@@ -19,7 +19,8 @@ returns-then-not-receive-fits c =
     let ds = declarations-at (a .scope .declarations .count) f (a .scope .declarations .at) in
     record {
       exact = ap (λ x. Err x) (c .fault .ensures) ∙ receive-1 ks ds (a .at) (a .channel) (a .message) (a .count) (v .count) (a .list .now) (kinds-long (v .count) f (v .at)) (c .if-not-receive-fits .ensures tt .exact);
-      within = tt }
+      within = tt;
+    }
 
 pub returns-in-Break-ask : need.returns-in-Break-ask
 returns-in-Break-ask c =
@@ -44,4 +45,5 @@ returns c =
     let is = c .declare-declared .ensures ∙ ap (λ ks. declared (exchange true (a .channel) (a .message) ks) ds) (c .as-slice .ensures ∙ c .received-kinds-kinds .ensures .exact ∙ ap (λ n. kinds-of ks (take n (a .list .now))) all) in
     record {
       exact = receive-3 ks ds (a .at) (a .channel) (a .message) (a .count) (v .count) (a .list .now) (kinds-long (v .count) f (v .at)) (c .if-not-receive-fits .ensures tt .exact) _ is (c .in-Continue-ask .ensures tt);
-      within = (omega arith, c .pre .place) }
+      within = (omega arith, c .pre .place);
+    }

@@ -31,4 +31,5 @@ returns c =
     let inv = c .loop-i .inv in
     record {
       exact = values-all value (a .count) (c .loop-i .-i) _ _ (omega arith) ∙ sym (inv .0);
-      within = (inv .2, inv .3, omega (arith, inv .1)) }
+      within = (inv .2, inv .3, omega (arith, inv .1));
+    }

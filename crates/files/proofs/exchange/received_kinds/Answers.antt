@@ -13,10 +13,11 @@ loop-variable-again c =
     let a = c .args in
     let i = c .loop-variable .variable-index in
     let ks = kinds-at (a .variables .count) (a .file .now) (a .variables .at) in
-    let kind = c .kind-or-integer .ensures ∙ ap kind-or-integer (c .kind .ensures) in
-    (c .push .ensures .list ∙ ap (λ l. l ++ c .kind-or-integer .result ∷ []) (c .loop-variable .inv .0) ∙ ap (λ k. kinds-of ks (take i (a .list .now)) ++ k ∷ []) kind
-     ∙ sym (map-more (λ v. kind-or-integer (nth ks v)) (a .list .now) i 0 (c .loop-variable-test .taken)),
-     omega (arith, c .push .ensures .count, c .loop-variable .inv .1))
+    let kind = c .kind-or-integer .ensures ∙ ap kind-or-integer (c .kind .ensures) in (
+      c .push .ensures .list ∙ ap (λ l. l ++ c .kind-or-integer .result ∷ []) (c .loop-variable .inv .0) ∙ ap (λ k. kinds-of ks (take i (a .list .now)) ++ k ∷ []) kind
+          ∙ sym (map-more (λ v. kind-or-integer (nth ks v)) (a .list .now) i 0 (c .loop-variable-test .taken)),
+      omega (arith, c .push .ensures .count, c .loop-variable .inv .1),
+    )
 
 pub returns : need.returns
 returns c =
@@ -24,4 +25,5 @@ returns c =
     let ks = kinds-at (a .variables .count) (a .file .now) (a .variables .at) in
     record {
       exact = c .loop-variable .inv .0 ∙ ap (kinds-of ks) (take-all (c .loop-variable .variable-index) (a .list .now) (c .loop-variable-test .left));
-      count = omega (arith, c .loop-variable .inv .1, c .pre .few) }
+      count = omega (arith, c .loop-variable .inv .1, c .pre .few);
+    }

@@ -17,15 +17,17 @@ pub returns-then-left-eq0 : need.returns-then-left-eq0
 returns-then-left-eq0 t c =
     record {
       exact = ap (λ x. Err x) (c .fault-then-left-eq0 .ensures) ∙ too-deep _ _ _ _ _ (c .if-left-eq0 .taken) (c .in-Some .ensures tt .exact);
-      within = tt }
+      within = tt;
+    }
 
 pub returns-in-Leaf : need.returns-in-Leaf
 returns-in-Leaf t c =
     record {
       exact = c .check-leaf .ensures .exact ∙ leaf-1 _ _ _ _ _ (omega arith) (c .in-Some .ensures tt .exact) _ (c .in-Leaf .is);
       within = made-weaker _ (λ v. v .0 ≡ c .args .at + leaf-size (c .in-Leaf .leaf)) (λ v. (c .args .at < v .0) × (v .0 ≤ length (c .args .file .now)))
-        (λ v e. let s = ap command-size (c .in-Leaf .is) in (omega (arith, e, leaf-some (c .in-Leaf .leaf)), omega (arith, e, s, c .in-Some .ensures tt .long)))
-        (c .check-leaf .ensures .end) }
+          (λ v e. let s = ap command-size (c .in-Leaf .is) in (omega (arith, e, leaf-some (c .in-Leaf .leaf)), omega (arith, e, s, c .in-Some .ensures tt .long)))
+          (c .check-leaf .ensures .end);
+    }
 
 pub returns-in-Break-first : need.returns-in-Break-first
 returns-in-Break-first t c =
@@ -47,8 +49,9 @@ returns-in-Continue-second t c =
     record {
       exact = c .both-fit .ensures .exact ∙ binary-4 _ _ _ _ _ (omega arith) (c .in-Some .ensures tt .exact) _ _ (c .in-Binary .is) _ _ (c .in-Continue-first .ensures tt .exact) (c .in-Continue-first-fits .ensures tt) (c .in-Continue-second .ensures tt .exact);
       within = made-weaker _ (λ v. v .0 ≡ c .in-Continue-second .second .0) (λ v. (c .args .at < v .0) × (v .0 ≤ length (c .args .file .now)))
-        (λ v e. let h = c .in-Continue-second .ensures tt .within in let k = c .in-Continue-first .ensures tt .within in (omega (arith, e, h .0, k .0), omega (arith, e, h .1)))
-        (c .both-fit .ensures .end) }
+          (λ v e. let h = c .in-Continue-second .ensures tt .within in let k = c .in-Continue-first .ensures tt .within in (omega (arith, e, h .0, k .0), omega (arith, e, h .1)))
+          (c .both-fit .ensures .end);
+    }
 
 pub returns-in-Break-only : need.returns-in-Break-only
 returns-in-Break-only t c =
@@ -60,5 +63,6 @@ returns-in-Continue-only t c =
     record {
       exact = c .one-fits .ensures .exact ∙ not-2 _ _ _ _ _ (omega arith) (c .in-Some .ensures tt .exact) _ (c .in-Not .is) (c .in-Continue-only .ensures tt .exact);
       within = made-weaker _ (λ v. v .0 ≡ c .in-Continue-only .only .0) (λ v. (c .args .at < v .0) × (v .0 ≤ length (c .args .file .now)))
-        (λ v e. let h = c .in-Continue-only .ensures tt .within in (omega (arith, e, h .0), omega (arith, e, h .1)))
-        (c .one-fits .ensures .end) }
+          (λ v e. let h = c .in-Continue-only .ensures tt .within in (omega (arith, e, h .0), omega (arith, e, h .1)))
+          (c .one-fits .ensures .end);
+    }

@@ -15,13 +15,15 @@ pub returns-then-left-eq0 : need.returns-then-left-eq0
 returns-then-left-eq0 t c =
     record {
       exact = ap (λ x. Err x) (c .fault-then-left-eq0 .ensures) ∙ s.too-deep _ _ _ _ _ _ (c .if-left-eq0 .taken) (c .in-Some .ensures tt .exact);
-      within = tt }
+      within = tt;
+    }
 
 pub returns-in-Skip : need.returns-in-Skip
 returns-in-Skip t c =
     record {
-      exact = c .few-fronts .ensures .exact ∙ s.skip-1 _ _ _ _ _ _ (omega arith) (c .in-Some .ensures tt .exact)  (c .in-Skip .is);
-      within = few-within _ (c .args .at) (c .args .at + 1) (length (c .args .file .now)) (omega arith) (omega (arith, ap command-size (c .in-Skip .is), c .in-Some .ensures tt .long)) (c .few-fronts .ensures .end) }
+      exact = c .few-fronts .ensures .exact ∙ s.skip-1 _ _ _ _ _ _ (omega arith) (c .in-Some .ensures tt .exact) (c .in-Skip .is);
+      within = few-within _ (c .args .at) (c .args .at + 1) (length (c .args .file .now)) (omega arith) (omega (arith, ap command-size (c .in-Skip .is), c .in-Some .ensures tt .long)) (c .few-fronts .ensures .end);
+    }
 
 pub returns-in-Break-set : need.returns-in-Break-set
 returns-in-Break-set t c =
@@ -32,7 +34,8 @@ pub returns-in-Continue-set : need.returns-in-Continue-set
 returns-in-Continue-set t c =
     record {
       exact = c .few-fronts-in-Set .ensures .exact ∙ s.set-2 _ _ _ _ _ _ (omega arith) (c .in-Some .ensures tt .exact) _ _ (c .in-Set .is) (c .in-Continue-set .ensures tt .exact);
-      within = few-within _ (c .args .at) (c .in-Continue-set .set .0) (length (c .args .file .now)) (omega (arith, c .in-Continue-set .ensures tt .within .0)) (c .in-Continue-set .ensures tt .within .1) (c .few-fronts-in-Set .ensures .end) }
+      within = few-within _ (c .args .at) (c .in-Continue-set .set .0) (length (c .args .file .now)) (omega (arith, c .in-Continue-set .ensures tt .within .0)) (c .in-Continue-set .ensures tt .within .1) (c .few-fronts-in-Set .ensures .end);
+    }
 
 pub returns-in-Break-sent : need.returns-in-Break-sent
 returns-in-Break-sent t c =
@@ -43,7 +46,8 @@ pub returns-in-Continue-sent : need.returns-in-Continue-sent
 returns-in-Continue-sent t c =
     record {
       exact = c .few-fronts-in-Send .ensures .exact ∙ s.send-2 _ _ _ _ _ _ (omega arith) (c .in-Some .ensures tt .exact) _ _ _ _ (c .in-Send .is) (c .in-Continue-sent .ensures tt .exact);
-      within = few-within _ (c .args .at) (c .in-Continue-sent .sent .0) (length (c .args .file .now)) (omega (arith, c .in-Continue-sent .ensures tt .within .0)) (c .in-Continue-sent .ensures tt .within .1) (c .few-fronts-in-Send .ensures .end) }
+      within = few-within _ (c .args .at) (c .in-Continue-sent .sent .0) (length (c .args .file .now)) (omega (arith, c .in-Continue-sent .ensures tt .within .0)) (c .in-Continue-sent .ensures tt .within .1) (c .few-fronts-in-Send .ensures .end);
+    }
 
 pub returns-in-Break-received : need.returns-in-Break-received
 returns-in-Break-received t c =
@@ -54,7 +58,8 @@ pub returns-in-Continue-received : need.returns-in-Continue-received
 returns-in-Continue-received t c =
     record {
       exact = c .few-fronts-in-Recv .ensures .exact ∙ s.recv-2 _ _ _ _ _ _ (omega arith) (c .in-Some .ensures tt .exact) _ _ _ _ _ (c .in-Recv .is) (c .in-Continue-received .ensures tt .exact);
-      within = few-within _ (c .args .at) (c .in-Continue-received .received .0) (length (c .args .file .now)) (omega (arith, c .in-Continue-received .ensures tt .within .0)) (c .in-Continue-received .ensures tt .within .1) (c .few-fronts-in-Recv .ensures .end) }
+      within = few-within _ (c .args .at) (c .in-Continue-received .received .0) (length (c .args .file .now)) (omega (arith, c .in-Continue-received .ensures tt .within .0)) (c .in-Continue-received .ensures tt .within .1) (c .few-fronts-in-Recv .ensures .end);
+    }
 
 pub returns-in-Break-first : need.returns-in-Break-first
 returns-in-Break-first t c =
@@ -75,7 +80,8 @@ pub returns-in-Continue-second : need.returns-in-Continue-second
 returns-in-Continue-second t c =
     record {
       exact = c .few-fronts-in-Seq .ensures .exact ∙ s.seq-4 _ _ _ _ _ _ (omega arith) (c .in-Some .ensures tt .exact) _ _ _ (c .in-Seq .is) (c .in-Continue-first .ensures tt .exact) (c .in-Continue-placed .ensures tt) (c .in-Continue-second .ensures tt .exact);
-      within = few-within _ (c .args .at) (c .in-Continue-second .second .0) (length (c .args .file .now)) (omega (arith, c .in-Continue-first .ensures tt .within .0, c .in-Continue-second .ensures tt .within .0)) (c .in-Continue-second .ensures tt .within .1) (c .few-fronts-in-Seq .ensures .end) }
+      within = few-within _ (c .args .at) (c .in-Continue-second .second .0) (length (c .args .file .now)) (omega (arith, c .in-Continue-first .ensures tt .within .0, c .in-Continue-second .ensures tt .within .0)) (c .in-Continue-second .ensures tt .within .1) (c .few-fronts-in-Seq .ensures .end);
+    }
 
 pub returns-in-Break-one : need.returns-in-Break-one
 returns-in-Break-one t c =
@@ -96,7 +102,8 @@ pub returns-in-Continue-other : need.returns-in-Continue-other
 returns-in-Continue-other t c =
     record {
       exact = c .few-fronts-in-Sel .ensures .exact ∙ s.sel-4 _ _ _ _ _ _ (omega arith) (c .in-Some .ensures tt .exact) _ _ _ (c .in-Sel .is) (c .in-Continue-one .ensures tt .exact) (c .in-Continue-placed-2 .ensures tt) (c .in-Continue-other .ensures tt .exact);
-      within = few-within _ (c .args .at) (c .in-Continue-other .other .0) (length (c .args .file .now)) (omega (arith, c .in-Continue-one .ensures tt .within .0, c .in-Continue-other .ensures tt .within .0)) (c .in-Continue-other .ensures tt .within .1) (c .few-fronts-in-Sel .ensures .end) }
+      within = few-within _ (c .args .at) (c .in-Continue-other .other .0) (length (c .args .file .now)) (omega (arith, c .in-Continue-one .ensures tt .within .0, c .in-Continue-other .ensures tt .within .0)) (c .in-Continue-other .ensures tt .within .1) (c .few-fronts-in-Sel .ensures .end);
+    }
 
 pub returns-in-Break-test : need.returns-in-Break-test
 returns-in-Break-test t c =
@@ -117,7 +124,8 @@ pub returns-in-Continue-guarded : need.returns-in-Continue-guarded
 returns-in-Continue-guarded t c =
     record {
       exact = c .few-fronts-in-Guard .ensures .exact ∙ s.guard-4 _ _ _ _ _ _ (omega arith) (c .in-Some .ensures tt .exact) _ _ _ (c .in-Guard .is) (c .in-Continue-test .ensures tt .exact) (c .in-Continue-placed-3 .ensures tt) (c .in-Continue-guarded .ensures tt .exact);
-      within = few-within _ (c .args .at) (c .in-Continue-guarded .guarded .0) (length (c .args .file .now)) (omega (arith, c .in-Continue-test .ensures tt .within .0, c .in-Continue-guarded .ensures tt .within .0)) (c .in-Continue-guarded .ensures tt .within .1) (c .few-fronts-in-Guard .ensures .end) }
+      within = few-within _ (c .args .at) (c .in-Continue-guarded .guarded .0) (length (c .args .file .now)) (omega (arith, c .in-Continue-test .ensures tt .within .0, c .in-Continue-guarded .ensures tt .within .0)) (c .in-Continue-guarded .ensures tt .within .1) (c .few-fronts-in-Guard .ensures .end);
+    }
 
 pub returns-in-Break-condition : need.returns-in-Break-condition
 returns-in-Break-condition t c =
@@ -148,7 +156,8 @@ pub returns-in-Continue-no : need.returns-in-Continue-no
 returns-in-Continue-no t c =
     record {
       exact = c .few-fronts-in-If .ensures .exact ∙ s.if-6 _ _ _ _ _ _ (omega arith) (c .in-Some .ensures tt .exact) _ _ _ _ _ (c .in-If .is) (c .in-Continue-condition .ensures tt .exact) (c .in-Continue-placed-4 .ensures tt) (c .in-Continue-yes .ensures tt .exact) (c .in-Continue-placed-5 .ensures tt) (c .in-Continue-no .ensures tt .exact);
-      within = few-within _ (c .args .at) (c .in-Continue-no .no .0) (length (c .args .file .now)) (omega (arith, c .in-Continue-condition .ensures tt .within .0, c .in-Continue-yes .ensures tt .within .0, c .in-Continue-no .ensures tt .within .0)) (c .in-Continue-no .ensures tt .within .1) (c .few-fronts-in-If .ensures .end) }
+      within = few-within _ (c .args .at) (c .in-Continue-no .no .0) (length (c .args .file .now)) (omega (arith, c .in-Continue-condition .ensures tt .within .0, c .in-Continue-yes .ensures tt .within .0, c .in-Continue-no .ensures tt .within .0)) (c .in-Continue-no .ensures tt .within .1) (c .few-fronts-in-If .ensures .end);
+    }
 
 pub returns-in-Break-again : need.returns-in-Break-again
 returns-in-Break-again t c =
@@ -169,4 +178,5 @@ pub returns-in-Continue-body : need.returns-in-Continue-body
 returns-in-Continue-body t c =
     record {
       exact = c .few-fronts-in-Do .ensures .exact ∙ s.do-4 _ _ _ _ _ _ (omega arith) (c .in-Some .ensures tt .exact) _ _ _ (c .in-Do .is) (c .in-Continue-again .ensures tt .exact) (c .in-Continue-placed-6 .ensures tt) (c .in-Continue-body .ensures tt .exact);
-      within = few-within _ (c .args .at) (c .in-Continue-body .body .0) (length (c .args .file .now)) (omega (arith, c .in-Continue-again .ensures tt .within .0, c .in-Continue-body .ensures tt .within .0)) (c .in-Continue-body .ensures tt .within .1) (c .few-fronts-in-Do .ensures .end) }
+      within = few-within _ (c .args .at) (c .in-Continue-body .body .0) (length (c .args .file .now)) (omega (arith, c .in-Continue-again .ensures tt .within .0, c .in-Continue-body .ensures tt .within .0)) (c .in-Continue-body .ensures tt .within .1) (c .few-fronts-in-Do .ensures .end);
+    }

@@ -1,0 +1,12 @@
+use native.Mathlib.Omega.{arith}
+use Rattle.admission.proofs.Deciding.{decides, bytes-from}
+use Rattle.admission.proofs.Supplied.{admits}
+use Rattle.admission.proofs.load.examine.Needs as need
+
+pub returns : need.returns
+returns c =
+    record {
+      exact = c .check-file .ensures;
+      admitted = decides (c .args .file .now) (c .check-file .result) (bytes-from (c .args .file .now) (λ i. omega (arith, c .typed .file i .fits))) (c .check-file .ensures);
+      law = admits;
+    }

@@ -1,3 +1,0 @@
-ghost use Rattle.admission.specs.Admission.{Admits};
-
-pub fn nothing() {}
