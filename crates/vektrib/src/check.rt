@@ -1,7 +1,7 @@
 // The command `check`: whether a model file is admitted.
 use crate::hex::HexFault;
 use crate::hex::bytes_of;
-use files::file::check_file;
+use admission::load::examine;
 use std::error::AnyError;
 
 // Says why words are no bytes.
@@ -25,7 +25,7 @@ pub fn print_hex_fault(rt: &LibcRuntime, words: &[&str], fault: HexFault) -> Res
 
 // Answers for the bytes of a file.
 pub fn print_check(rt: &LibcRuntime, file: &[u8]) -> Result<(), AnyError> {
-    match check_file(file) {
+    match examine(file) {
         Ok(summary) => {
             let classes = summary.classes;
             let processes = summary.processes;

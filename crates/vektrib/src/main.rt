@@ -1,23 +1,23 @@
 // A shell over the engine: one command to a line of standard input, and an answer for each.
+use input::Next;
+use input::next_line;
 use shell::answer;
 use std::error::AnyError;
-use std::io::ErrorKind;
 
 mod check;
 mod eval;
 mod hex;
+mod input;
+mod rota;
 mod shell;
 
 fn run(rt: &LibcRuntime) -> Result<(), AnyError> {
-    for line in rt.lines(rt.alloc()) {
-        match line {
-            Ok(line) => answer(rt, line.as_str())?,
-            Err(error) => {
-                if error.kind() != ErrorKind::InvalidData {
-                    return Err(error.into());
-                }
-                println!(rt, "wrong: the line is not UTF-8 text")?;
-            }
+    let mut line = String::new(rt.alloc());
+    for _ in 0..u64::MAX {
+        match next_line(rt, &mut line)? {
+            Next::Line => answer(rt, line.as_str())?,
+            Next::NotText => {}
+            Next::End => return Ok(()),
         }
     }
     Ok(())
