@@ -6,6 +6,7 @@ choosers and the shell. `python3 tools/oracle.py < INPUT` prints what the shell
 must answer to INPUT; the stored answers of the program come from here.
 """
 import re, sys
+import rota_oracle
 
 LO, HI = -2147483648, 2147483647
 I, B = 1, 2
@@ -543,7 +544,10 @@ help              lists the commands
 eval EXPRESSION   works out an expression in prefix form, as eval ADD 1 MUL 2 3
                   operations: ADD SUB MUL DIV LESS SAME AND OR NOT
                   values: numbers, true, false, ?i and ?b for unknown ones
-check HEX         says whether a model file is admitted, or its first fault"""
+check HEX         says whether a model file is admitted, or its first fault
+rota CHOOSER      draws up who is served at each turn; lines of closed steps follow,
+                  seven numbers each, a blank line ends a turn, and end the rota
+                  choosers: script N.., rotation, seniority, hold K rotation, hold K seniority"""
 
 def hex_words(words):
     for i, w in enumerate(words):
@@ -563,6 +567,7 @@ def shell_check(words):
     return "admitted classes %d processes %d" % (len(f.classes), len(f.procs))
 
 def shell(lines):
+    lines = iter(lines)
     for line in lines:
         words = line.split()
         if not words or words[0].startswith("#"): continue
@@ -570,6 +575,7 @@ def shell(lines):
             print(HELP if len(words) == 1 else "wrong: word 1: expected the end of the line, found '%s'" % words[1])
         elif words[0] == "eval": print("\n".join(shell_eval(" ".join(words[1:]))))
         elif words[0] == "check": print(shell_check(words[1:]))
+        elif words[0] == "rota": rota_oracle.follow(words[1:], lines)
         else: print("wrong: unknown command '%s'; help lists the commands" % words[0])
 
 if __name__ == "__main__":

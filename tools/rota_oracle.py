@@ -1,11 +1,10 @@
 #!/usr/bin/env python3
 """What `rota` must print, worked out from the rules of the choosers alone.
 
-Reads rotas from standard input, one after another. A rota is a line `rota CHOOSER`, then lines of closed steps
-(seven numbers each), a blank line after each turn, and `end` after the last turn. Prints one line for each turn,
-or one line that begins `wrong:` for a line that is none of these; such a line changes nothing.
+A rota is a line `rota CHOOSER`, then lines of closed steps (seven numbers each), a blank line after each turn, and
+`end` after the last turn. There is one line for each turn, and one line that begins `wrong:` for a line that is none
+of these; such a line changes nothing. Where the chooser is wrong, the lines up to `end` are passed over.
 """
-import sys
 
 PROCESSES = range(8)
 INTERNAL, MEETING = 0, 1
@@ -75,21 +74,24 @@ class Hold:
         return n
 
 
-def number(word, top):
+def number(word, top, fault):
     if not (word.isascii() and word.isdigit()) or int(word) > top:
-        raise ValueError(f"'{word}' is no number from 0 to {top}")
+        raise ValueError(fault)
     return int(word)
+
+
+NUMBERS = "a script has numbers from 0 to 65535, and hold one from 0 to 255"
 
 
 def chooser(words):
     if words and words[0] == "script":
-        return Script([number(w, 65535) for w in words[1:]])
+        return Script([number(w, 65535, NUMBERS) for w in words[1:]])
     if words == ["rotation"]:
         return Rotation()
     if words == ["seniority"]:
         return Seniority()
     if len(words) == 3 and words[0] == "hold":
-        k = number(words[1], 255)
+        k = number(words[1], 255, NUMBERS)
         if words[2] == "rotation":
             return Hold(k, Rotation())
         if words[2] == "seniority":
@@ -100,12 +102,12 @@ def chooser(words):
 def step(words):
     if len(words) != 7:
         raise ValueError("a step has seven numbers")
-    values = [number(w, 255) for w in words]
-    if values[0] not in (INTERNAL, MEETING):
-        raise ValueError("a closed step has kind 0 or 1")
-    if any(p not in PROCESSES for p in people(values)):
+    kind = number(words[0], 1, "a closed step has kind 0 or 1")
+    process = number(words[1], 7, "a process is a number from 0 to 7")
+    rest = [number(w, 255, "a field of a step is a number from 0 to 255") for w in words[2:]]
+    if kind == MEETING and rest[1] not in PROCESSES:
         raise ValueError("a process is a number from 0 to 7")
-    return values
+    return [kind, process] + rest
 
 
 class Rota:
@@ -127,26 +129,25 @@ class Rota:
         print(f"turn {self.turns} pick {n}: {' '.join(map(str, steps[n]))}; waiting {' '.join(map(str, self.waiting))}")
 
 
-def main():
-    rota = None
-    for line in sys.stdin:
+def follow(words, lines):
+    """The rota that the words name, over the lines that follow, up to its end."""
+    try:
+        rota = Rota(chooser(words))
+    except ValueError as e:
+        print(f"wrong: {e}")
+        for line in lines:
+            if line.split() == ["end"]:
+                return
+        return
+    for line in lines:
         words = line.split()
+        if words == ["end"]:
+            break
+        if not words:
+            rota.turn()
+            continue
         try:
-            if rota is None:
-                if not words:
-                    continue
-                if words[0] != "rota":
-                    raise ValueError(f"'{words[0]}' is no command")
-                rota = Rota(chooser(words[1:]))
-            elif not words:
-                rota.turn()
-            elif words == ["end"]:
-                rota.turn()
-                rota = None
-            else:
-                rota.steps.append(step(words))
+            rota.steps.append(step(words))
         except ValueError as e:
             print(f"wrong: {e}")
-
-
-main()
+    rota.turn()
