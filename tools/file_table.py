@@ -359,7 +359,8 @@ T("ten SKIPs nested to the right: the inner SEL is named", one(skips(10)), NO(9,
 T("SEL of four and four", one(("SEL", skips(4), skips(4))), OK(1, 1))
 T("SEL of four and five", one(("SEL", skips(4), skips(5))), NO(9, 8, 3))
 T("SEL of eight and one", one(("SEL", skips(8), SKIP)), NO(9, 8, 3))
-T("SEL of SKIP and nine: the inner SEL is named", one(("SEL", SKIP, skips(9))), NO(9, 12, 3))
+T("SEL of SET and nine: the inner SEL is named", one(("SEL", ("SET", 0, IUNK), skips(9)), [(I, 0)]), NO(9, 20, 3))
+T("SEL of SKIP, and SEQ of SKIP and then eight, counts two", one(("SEL", SKIP, ("SEQ", SKIP, skips(8)))), OK(1, 1))
 T("four IFs", one(right("SEL", [IFU] * 4)), OK(1, 1))
 T("four IFs and a SKIP", one(right("SEL", [IFU] * 4 + [SKIP])), NO(9, 8, 3))
 T("four DOs", one(left("SEL", [DOU] * 4)), OK(1, 1))
@@ -663,8 +664,8 @@ Jobs and artifacts are numbered from 1; 0 in a or b is an empty slot. The slot
 old holds what an earlier run left on the disk. It is unknown until the outside
 has scanned the disk, and so long the answer to a lookup is true for a job in a
 or b and unknown for any other: the planner may then build or reuse. After
-scanned(0) every answer is true or false, and a job is built exactly when it is
-in no slot.
+scanned(0) every answer for a known job is true or false, and the job goes to a
+worker exactly when it is in no slot.
 
 Channels of the classes:
 
@@ -763,7 +764,17 @@ def try_site():
         s = [s for s in steps(e.model) if s[0] == 3 and s[5] == 0]
         assert len(s) == 1 and e.take(s[0], [(1, 1, jobs)], j) == "ok"
         serve()
-    seen = {(s[0], s[5], s[6]) for s, _, _ in j.items}
+    # and a walk over all steps, outside ones among them, that never comes to rest
+    walk = Lst(10 ** 6)
+    assert e.load(BUILD_SITE) == "ok"
+    for k in range(600):
+        ss = steps(e.model)
+        assert ss, k
+        s = ss[(5 * k + k // 7) % len(ss)]
+        assert e.take(s, [(1, 1, k % 5)] if s[0] == 3 else [], walk) == "ok"
+    seen = {(s[0], s[5], s[6]) for s, _, _ in walk.items}
+    assert seen == {(0, 255, 255), (1, 1, 0), (1, 2, 2), (1, 3, 0), (1, 3, 1),
+                    (2, 9, 2), (2, 9, 3), (2, 9, 4), (3, 0, 0), (3, 8, 0)}, seen
     return first, j.items, seen
 
 # ---------------------------------------------------------------- printing
@@ -816,7 +827,7 @@ def print_report():
     first, items, seen = try_site()
     print("build site: %d bytes, %d steps before the first jobs, %d steps for three rounds of four jobs" % (
         len(BUILD_SITE), first, len(items) - first))
-    print("  kinds of step (kind, channel, message): " + ", ".join("%d %d %d" % s for s in sorted(seen)))
+    print("  600 steps of a walk without rest; its steps (kind, channel, message): " + ", ".join("%d %d %d" % s for s in sorted(seen)))
 
 T("the build site of examples/build-site.txt", BUILD_SITE, OK(3, 4))
 

@@ -545,6 +545,7 @@ eval EXPRESSION   works out an expression in prefix form, as eval ADD 1 MUL 2 3
                   operations: ADD SUB MUL DIV LESS SAME AND OR NOT
                   values: numbers, true, false, ?i and ?b for unknown ones
 check HEX         says whether a model file is admitted, or its first fault
+show HEX          prints an admitted file as indented text, each command with its place
 rota CHOOSER      draws up who is served at each turn; lines of closed steps follow,
                   seven numbers each, a blank line ends a turn, and end the rota
                   choosers: script N.., rotation, seniority, hold K rotation, hold K seniority"""
@@ -566,6 +567,44 @@ def shell_check(words):
         return "refused %d place %d layer %d" % e.t
     return "admitted classes %d processes %d" % (len(f.classes), len(f.procs))
 
+def shell_show(words):
+    try:
+        f = check(hex_words(words))
+    except Wrong as e:
+        return [str(e)]
+    except Fault as e:
+        return ["refused %d place %d layer %d" % e.t]
+    out = []
+    names = {I: "Integer", B: "Boolean"}
+    def line(at, level, text): out.append("%5d %s%s" % (at, "  " * level, text))
+    def walk(n, level):
+        o = n.ops
+        text = n.name
+        if n.name == "INT": text += " %d" % w4s(o)
+        if n.name == "BOOL": text += (" false", " true", " ?b")[o[0]]
+        if n.name in ("VAR", "SET"): text += " %d" % o[0]
+        if n.name in ("SEND", "RECV"): text += " channel %d message %d" % (o[0], o[1])
+        if n.name == "RECV": text += " into" + "".join(" %d" % v for v in o[3:3 + o[2]])
+        if n.name == "PROC": text += " class %d" % o[0]
+        if n.name == "HIDE": text += "".join(" %d" % c for c in range(32) if int.from_bytes(o, "little") >> c & 1)
+        if n.name == "RENAME": text += " %d to %d" % (o[0], o[1])
+        line(n.place, level, text)
+        for p in n.parts: walk(p, level + 1)
+    for i, c in enumerate(f.classes):
+        line(c.place, 0, "class %d" % i)
+        at = c.start + 1
+        for k, v in enumerate(c.vars):
+            line(at, 1, "variable %d %s %s" % (k, names[v[0]], show(v)))
+            at += 6
+        at += 1
+        for d, ch, m, ks in c.decls:
+            line(at, 1, "%s channel %d message %d%s" % ("receives" if d else "sends", ch, m, "".join(" " + names[k] for k in ks)))
+            at += 8
+        walk(c.statement, 1)
+    line(f.behaviour_place, 0, "behaviour")
+    walk(f.behaviour, 1)
+    return out
+
 def shell(lines):
     lines = iter(lines)
     for line in lines:
@@ -575,6 +614,7 @@ def shell(lines):
             print(HELP if len(words) == 1 else "wrong: word 1: expected the end of the line, found '%s'" % words[1])
         elif words[0] == "eval": print("\n".join(shell_eval(" ".join(words[1:]))))
         elif words[0] == "check": print(shell_check(words[1:]))
+        elif words[0] == "show": print("\n".join(shell_show(words[1:])))
         elif words[0] == "rota": rota_oracle.follow(words[1:], lines)
         else: print("wrong: unknown command '%s'; help lists the commands" % words[0])
 

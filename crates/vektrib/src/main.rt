@@ -10,6 +10,7 @@ mod hex;
 mod input;
 mod rota;
 mod shell;
+mod show;
 
 fn run(rt: &LibcRuntime) -> Result<(), AnyError> {
     let mut line = String::new(rt.alloc());

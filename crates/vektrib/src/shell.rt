@@ -2,15 +2,17 @@
 use crate::check::check;
 use crate::eval::eval;
 use crate::rota::rota_of;
+use crate::show::show_words;
 use std::error::AnyError;
 
 // What `help` prints.
-const HELP: [&str; 8] = [
+const HELP: [&str; 9] = [
     "help              lists the commands",
     "eval EXPRESSION   works out an expression in prefix form, as eval ADD 1 MUL 2 3",
     "                  operations: ADD SUB MUL DIV LESS SAME AND OR NOT",
     "                  values: numbers, true, false, ?i and ?b for unknown ones",
     "check HEX         says whether a model file is admitted, or its first fault",
+    "show HEX          prints an admitted file as indented text, each command with its place",
     "rota CHOOSER      draws up who is served at each turn; lines of closed steps follow,",
     "                  seven numbers each, a blank line ends a turn, and end the rota",
     "                  choosers: script N.., rotation, seniority, hold K rotation, hold K seniority",
@@ -40,6 +42,7 @@ pub fn answer(rt: &LibcRuntime, line: &str) -> Result<(), AnyError> {
         "help" => help(rt, &words[1..]),
         "eval" => eval(rt, &words[1..]),
         "check" => check(rt, &words[1..]),
+        "show" => show_words(rt, &words[1..]),
         "rota" => rota_of(rt, &words[1..]),
         name => {
             if !name.starts_with('#') {
