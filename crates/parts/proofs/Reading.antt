@@ -3,7 +3,7 @@ use Prim.Native.Nat.{ℕ, zero, suc, _+_, _-_, _<_, _≤_}
 use mathlib.Core.Path.{_≡_, refl, ap, sym, _∙_}
 use mathlib.Core.List.{List, [], _∷_}
 use native.Mathlib.Omega.{arith}
-use lib.ListN.{drop, length, take}
+use lib.ListN.{drop, length}
 use Rattle.std.proofs.shelf.Lists.{take-at}
 use Rattle.std.specs.declared.option.Option.the-variants.{Some}
 use Rattle.commands.specs.declared.behaviour.BehaviourCommand.{BehaviourCommand}

@@ -1,7 +1,5 @@
-use mathlib.Core.Path.{_≡_, refl}
+use mathlib.Core.Path.{refl}
 use native.Mathlib.Omega.{arith}
-use Prim.Native.Nat.{_+_, _-_}
-use Rattle.commands.specs.Trees.{exprs-size}
 use Rattle.parts.proofs.Walking.{ahead-first, ahead-next, ahead-done}
 use Rattle.parts.proofs.walk.end_of_values.Needs as need
 
