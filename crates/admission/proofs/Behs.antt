@@ -12,6 +12,7 @@ use Rattle.std.specs.declared.result.Result.the-variants.{Ok}
 use Rattle.commands.specs.declared.behaviour.BehaviourCommand.{BehaviourCommand}
 use Rattle.commands.specs.declared.behaviour.BehaviourCommand.the-variants.{Proc, Par, Hide, Rename}
 use Rattle.commands.specs.Behaviours.{behaviour-command}
+use Rattle.commands.specs.Depths.{behaviour-depth}
 use Rattle.commands.specs.Stands.{Behaviour-at}
 use Rattle.commands.specs.Trees.{Behaviour, process, parallel, hide, rename, behaviour-size}
 use Rattle.files.specs.declared.fault.FaultKind.the-variants.{Command, Operand, Processes}
@@ -19,7 +20,7 @@ use Rattle.files.specs.declared.fault.Layer.the-variants.{Behaviour as Behaviou
 use Rattle.files.specs.Checked.{known}
 use Rattle.files.specs.Behaviours.{Procs, behaviour-parts, check-behaviour}
 use Rattle.commands.specs.ByteLists.{Bytes}
-use Rattle.admission.specs.Conditions.{Behaviour-kept, behaviour-depth, processes}
+use Rattle.admission.specs.Conditions.{Behaviour-kept, processes}
 use Rattle.admission.proofs.Oks.{bind-ok, ask-ok, known-ok, both-true, ok-is}
 use Rattle.admission.proofs.Ranges.{set-below}
 

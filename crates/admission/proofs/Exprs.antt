@@ -16,6 +16,7 @@ use Rattle.commands.specs.declared.expression.ExpressionCommand.{ExpressionComm
 use Rattle.commands.specs.declared.expression.ExpressionCommand.the-variants.{Leaf as LeafC, Binary, Not}
 use Rattle.commands.specs.declared.expression.Leaf.{Leaf}
 use Rattle.commands.specs.declared.expression.Leaf.the-variants.{Int, Bool as BoolL, Iunk, Var}
+use Rattle.commands.specs.Depths.{expr-depth, exprs-depth}
 use Rattle.commands.specs.Expressions.{expression-command, leaf-size}
 use Rattle.commands.specs.Stands.{Expr-at, Exprs-at}
 use Rattle.commands.specs.Trees.{Expr, leaf, binary, negation, expr-size, exprs-size}
@@ -25,7 +26,7 @@ use Rattle.files.specs.Checked.{ask, known}
 use Rattle.files.specs.Expressions.{End, check-expression, expression-parts, leaf-kind, first-fits}
 use Rattle.files.specs.Statements.{check-values}
 use Rattle.commands.specs.ByteLists.{Bytes}
-use Rattle.admission.specs.Conditions.{Leaf-kept, Expr-kept, Exprs-kept, expr-depth, exprs-depth}
+use Rattle.admission.specs.Conditions.{Leaf-kept, Expr-kept, Exprs-kept}
 use Rattle.admission.proofs.Oks.{bind-ok, seq-ok, ask-ok, ask-last, known-ok, ok-is, same-from, same-refl}
 use Rattle.admission.proofs.Ranges.{int-ranged}
 

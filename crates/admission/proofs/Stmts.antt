@@ -16,6 +16,7 @@ use Rattle.values.specs.Kinds.{same-kind}
 use Rattle.commands.specs.declared.statement.StatementCommand.{StatementCommand}
 use Rattle.commands.specs.declared.statement.StatementCommand.the-variants.{Skip, Set, Send, Recv, Seq, Sel, Guard, If, Do}
 use Rattle.commands.specs.Bytes.{padded}
+use Rattle.commands.specs.Depths.{expr-depth, stmt-depth}
 use Rattle.commands.specs.Stands.{Expr-at, Stmt-at}
 use Rattle.commands.specs.Statements.{statement-command}
 use Rattle.commands.specs.Trees.{Expr, Stmt, skip, assign, send, receive, sequence, select, guard, branch, loop, Declaration, expr-size, exprs-size, stmt-size}
@@ -25,7 +26,7 @@ use Rattle.files.specs.Checked.{Checked, known, _>>=_}
 use Rattle.files.specs.Expressions.{check-expression}
 use Rattle.files.specs.Statements.{Behind, exchange-fits, variables-fit, kinds-of, declared, exchange, check-values, check-test, few-fronts, statement-parts, check-statement}
 use Rattle.commands.specs.ByteLists.{Bytes}
-use Rattle.admission.specs.Conditions.{Expr-kept, Stmt-kept, most-fronts, expr-depth, stmt-depth}
+use Rattle.admission.specs.Conditions.{Expr-kept, Stmt-kept, most-fronts}
 use Rattle.admission.proofs.Oks.{bind-ok, ask-ok, known-ok, both-true, ok-is, same-from, same-refl}
 use Rattle.admission.proofs.Ranges.{four-variables}
 use Rattle.admission.proofs.Exprs.{expr-sound, expr-complete, values-sound, values-complete}

@@ -1,5 +1,5 @@
 -- The conditions that the tree of a model file keeps.
-use Prim.Native.Nat.{ℕ, _+_, _^_, _≤_, _<_, max}
+use Prim.Native.Nat.{ℕ, _+_, _^_, _≤_, _<_}
 use mathlib.Core.Path.{_≡_}
 use mathlib.Core.Bool.{Bool, true, false, cond, _&&_}
 use mathlib.Core.List.{List, [], _∷_, map}
@@ -18,6 +18,7 @@ use Rattle.values.specs.Values.{Val, in-range, kind-of}
 use Rattle.commands.specs.declared.expression.Leaf.{Leaf}
 use Rattle.commands.specs.declared.expression.Leaf.the-variants.{Int, Bool as BoolL, Iunk, Var}
 use Rattle.commands.specs.Bytes.{file-bytes}
+use Rattle.commands.specs.Depths.{stmt-depth, behaviour-depth}
 use Rattle.commands.specs.Trees.{Expr, leaf, binary, negation, Stmt, skip, assign, send, receive, sequence, select, guard, branch, loop, Behaviour, process, parallel, hide, rename, Declaration, Class, File}
 use Rattle.files.specs.Expressions.{leaf-kind}
 use Rattle.files.specs.Statements.{exchange}
@@ -84,33 +85,6 @@ Stmt-kept ks ds (select a b) = (most-fronts a + most-fronts b ≤ 8) × Stmt-kep
 Stmt-kept ks ds (guard e a) = Expr-kept ks Boolean e × Stmt-kept ks ds a
 Stmt-kept ks ds (branch e a b) = Expr-kept ks Boolean e × Stmt-kept ks ds a × Stmt-kept ks ds b
 Stmt-kept ks ds (loop e a) = Expr-kept ks Boolean e × Stmt-kept ks ds a
-
--- how deep commands nest; the root is at depth 1
-abbrev pub expr-depth : Expr → ℕ
-expr-depth (leaf l) = 1
-expr-depth (binary op a b) = 1 + max (expr-depth a) (expr-depth b)
-expr-depth (negation a) = 1 + expr-depth a
-
-abbrev pub exprs-depth : List Expr → ℕ
-exprs-depth [] = 0
-exprs-depth (e ∷ es) = max (expr-depth e) (exprs-depth es)
-
-abbrev pub stmt-depth : Stmt → ℕ
-stmt-depth skip = 1
-stmt-depth (assign v e) = 1 + expr-depth e
-stmt-depth (send c m es) = 1 + exprs-depth es
-stmt-depth (receive c m vs) = 1
-stmt-depth (sequence a b) = 1 + max (stmt-depth a) (stmt-depth b)
-stmt-depth (select a b) = 1 + max (stmt-depth a) (stmt-depth b)
-stmt-depth (guard e a) = 1 + max (expr-depth e) (stmt-depth a)
-stmt-depth (branch e a b) = 1 + max (expr-depth e) (max (stmt-depth a) (stmt-depth b))
-stmt-depth (loop e a) = 1 + max (expr-depth e) (stmt-depth a)
-
-abbrev pub behaviour-depth : Behaviour → ℕ
-behaviour-depth (process c) = 1
-behaviour-depth (parallel a b) = 1 + max (behaviour-depth a) (behaviour-depth b)
-behaviour-depth (hide s a) = 1 + behaviour-depth a
-behaviour-depth (rename x y a) = 1 + behaviour-depth a
 
 -- a behaviour over so many classes
 abbrev pub Behaviour-kept : ℕ → Behaviour → Type 0

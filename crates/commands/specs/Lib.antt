@@ -3,6 +3,7 @@ pub mod Expressions
 pub mod Statements
 pub mod Behaviours
 pub mod Trees
+pub mod Depths
 pub mod Bytes
 pub mod Stands
 pub mod ByteLists
