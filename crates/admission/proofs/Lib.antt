@@ -12,3 +12,4 @@ pub mod ClassBytes
 pub mod FileBytes
 pub mod Supplied
 pub mod Deciding
+pub mod Rereading

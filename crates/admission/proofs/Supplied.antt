@@ -7,16 +7,17 @@ use lib.ListN.{length, drop, length-append, length-drop}
 use Rattle.values.specs.declared.kind.Kind.{Kind}
 use Rattle.commands.specs.declared.expression.Leaf.{Leaf}
 use Rattle.commands.specs.declared.expression.Leaf.the-variants.{Int, Bool as BoolL, Iunk, Var}
-use Rattle.commands.specs.Bytes.{stmt-bytes, behaviour-bytes}
+use Rattle.commands.specs.Bytes.{stmt-bytes, behaviour-bytes, file-bytes}
 use Rattle.commands.specs.Ranges.{LeafInRange, InRange, ExprsInRange, StmtInRange}
-use Rattle.commands.specs.Trees.{Expr, leaf, binary, negation, Stmt, skip, assign, send, receive, sequence, select, guard, branch, loop, Behaviour, process, parallel, hide, rename, Declaration, stmt-size, behaviour-size}
+use Rattle.commands.specs.Trees.{Expr, leaf, binary, negation, Stmt, skip, assign, send, receive, sequence, select, guard, branch, loop, Behaviour, process, parallel, hide, rename, Declaration, File, stmt-size, behaviour-size}
 use Rattle.commands.proofs.Decoded.{stmt-to-bytes, behaviour-to-bytes}
 use Rattle.commands.proofs.Encoded.{stmt-from-bytes, stmt-bytes-size, stmt-behind, behaviour-from-bytes, behaviour-bytes-size, behaviour-behind}
 use Rattle.commands.proofs.Unique.{stmt-one, behaviour-one}
 use Rattle.admission.specs.Admission.{Admits}
-use Rattle.admission.specs.Conditions.{Leaf-kept, Expr-kept, Exprs-kept, Stmt-kept}
+use Rattle.admission.specs.Conditions.{Conditions, Leaf-kept, Expr-kept, Exprs-kept, Stmt-kept}
 use Rattle.admission.proofs.ClassBytes.{Stmt-written}
-use Rattle.admission.proofs.FileBytes.{Behaviour-written, admits-from}
+use Rattle.admission.proofs.FileBytes.{Behaviour-written, admits-from, file-written}
+use Rattle.admission.proofs.FileParts.{File-at}
 
 leaf-ranged : (l : Leaf) (ks : List Kind) (k : Kind) → Leaf-kept ks k l → LeafInRange l
 leaf-ranged (Int z) ks k h = h .1
@@ -74,6 +75,10 @@ stmt-written t ks ds k f at rest e =
 behaviour-written : Behaviour-written
 behaviour-written t n k f at rest e =
     (behaviour-from-bytes t f at rest e, behaviour-behind t f at rest e, inside f at (behaviour-size t) (behaviour-bytes at t) rest e (behaviour-bytes-size at t) (behaviour-some t))
+
+-- a tree that keeps the conditions stands in its bytes
+pub stands : (t : File) → Conditions t → File-at (file-bytes t) t
+stands = file-written stmt-written behaviour-written
 
 pub admits : Admits
 admits = admits-from stmt-to-bytes stmt-written stmt-one behaviour-to-bytes behaviour-written behaviour-one

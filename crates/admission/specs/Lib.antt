@@ -1,3 +1,4 @@
 pub mod Conditions
 pub mod Admission
 pub mod Samples
+pub mod Read

@@ -5,3 +5,4 @@ pub mod Encoded
 pub mod Decoded
 pub mod Nodes
 pub mod Unique
+pub mod Cuts

@@ -124,11 +124,15 @@ class-kinds f at = kinds-at (byte f at) f (at + 1)
 abbrev pub declarations-place : List ℕ → ℕ → ℕ
 declarations-place f at = at + 1 + 6 * byte f at
 
+-- the place of the statement, behind the declarations
+abbrev pub statement-place : List ℕ → ℕ → ℕ
+statement-place f at = declarations-place f at + 1 + 8 * byte f (declarations-place f at)
+
 abbrev pub class-declarations : List ℕ → ℕ → List Declaration
 class-declarations f at = declarations-at (byte f (declarations-place f at)) f (declarations-place f at + 1)
 
 -- the statement's place in a class whose head was checked: behind all variables and declarations
 pub record Headed (f : List ℕ) (at place : ℕ) : Type 0 where
   pub variables-within : declarations-place f at + 1 ≤ length f
-  pub place-is : place ≡ declarations-place f at + 1 + 8 * byte f (declarations-place f at)
+  pub place-is : place ≡ statement-place f at
   pub place-within : place ≤ length f

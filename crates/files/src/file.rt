@@ -5,20 +5,17 @@ ghost use Prim.Native.Nat.{_≤_, _<_, _+_, _*_};
 ghost use lib.ListN.{length};
 ghost use Rattle.std.specs.Vec.{made};
 ghost use Rattle.files.specs.Files.{check-body, check-class, check-classes, header-classes, check-file};
-ghost use Rattle.files.specs.Summaries.{scope-at, summed};
+ghost use Rattle.files.specs.Summaries.{summed};
 use crate::behaviour::check_behaviour;
-use crate::bytes::byte_at;
 use crate::bytes::word_at;
 use crate::checked::ask;
 use crate::checked::fault;
-use crate::declarations::Declarations;
-use crate::exchange::Scope;
+use crate::class::scope_at;
 use crate::fault::FaultKind;
 use crate::fault::Layer;
 use crate::fault::LoadFault;
 use crate::head::check_head;
 use crate::statement::check_statement;
-use crate::variables::Variables;
 
 // The levels that commands may nest.
 pub const LEVELS: u8 = 32;
@@ -30,24 +27,6 @@ pub struct Summary {
     // the place of the behaviour
     pub behaviour: usize,
     pub processes: u8,
-}
-
-// Where the variables and declarations of the class whose bytes begin at `at` stand.
-fn scope_at(file: &[u8], at: usize) -> Scope
-    requires { ⌜ at ≤ length (now file) ⌝ }
-    ensures { λ r. ⌜ r ≡ scope-at (now (file .entry)) at ⌝ }
-{
-    let count = byte_at(file, at);
-    let place = at + 1 + 6 * count as usize;
-    let variables = Variables { at: at + 1, count };
-    let declarations = Declarations {
-        at: place + 1,
-        count: byte_at(file, place),
-    };
-    Scope {
-        variables,
-        declarations,
-    }
 }
 
 // Head and statement of the class whose bytes begin at `at` and end with the slice.

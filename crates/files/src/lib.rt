@@ -2,6 +2,7 @@
 pub(crate) mod behaviour;
 pub(crate) mod bytes;
 pub(crate) mod checked;
+pub mod class;
 pub mod declarations;
 pub mod exchange;
 pub(crate) mod expression;
