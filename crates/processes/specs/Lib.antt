@@ -1,0 +1,4 @@
+pub mod Evaluation
+pub mod Fronts
+pub mod Waiting
+pub mod Laws

@@ -1,0 +1,4 @@
+// What one process can do next.
+pub mod counting;
+pub mod evaluation;
+pub mod facts;
