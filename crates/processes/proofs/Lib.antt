@@ -1,2 +1,3 @@
 pub mod Waited
 pub mod Numbered
+pub mod Kept

@@ -1,4 +1,5 @@
 pub mod Evaluation
 pub mod Fronts
 pub mod Waiting
+pub mod Classes
 pub mod Laws
