@@ -50,7 +50,7 @@ below (branch e a b) t s p q = ⊎-elim (λ i. subst (λ x. Part x s) i q) (⊎-
 below (loop e a) t s p q = ⊎-elim (λ i. subst (λ x. Part x s) i q) (λ h. inr (below a t s h q)) p
 
 module _ (ks : List Kind) (ds : List Declaration) where
-  part-kept : (w s : Stmt) → Stmt-kept ks ds w → Part w s → Stmt-kept ks ds s
+  pub part-kept : (w s : Stmt) → Stmt-kept ks ds w → Part w s → Stmt-kept ks ds s
   part-kept skip s k p = subst (Stmt-kept ks ds) (sym p) k
   part-kept (assign v e) s k p = subst (Stmt-kept ks ds) (sym p) k
   part-kept (send c m es) s k p = subst (Stmt-kept ks ds) (sym p) k
@@ -154,8 +154,8 @@ module _ (c : Class) (kept : Class-kept c) (vs : List Val) (kinds : map kind-of 
   two : (v : Val) (n : ℕ) (x y : List Stmt) → n + 2 ≤ 8 → All Own x → Has-room x → All Own y → Has-room y → All (Front-of c vs) (offered (not (is-false v)) (front n internal x) ++ offered (not (is-true v)) (front (n + 1) internal y))
   two v n x y h p r q t =
       all-join (Front-of c vs) _ _
-        (all-offered (Front-of c vs) (not (is-false v)) _ (one n internal x (omega (arith, h)) tt p r))
-        (all-offered (Front-of c vs) (not (is-true v)) _ (one (n + 1) internal y (omega (arith, h)) tt q t))
+      (all-offered (Front-of c vs) (not (is-false v)) _ (one n internal x (omega (arith, h)) tt p r))
+      (all-offered (Front-of c vs) (not (is-true v)) _ (one (n + 1) internal y (omega (arith, h)) tt q t))
 
   own-kept : (s : Stmt) → Own s → Stmt-kept (map kind-of vs) (c .declarations) s
   own-kept s p = subst (λ ks. Stmt-kept ks (c .declarations) s) (sym kinds) (part-kept _ _ (c .statement) s (kept .statement-kept) p)
@@ -180,24 +180,24 @@ module _ (c : Class) (kept : Class-kept c) (vs : List Val) (kinds : map kind-of 
       fronts-kept n a (b ∷ rest) h (own (sequence a b) a p (inr (inl (same a)))) (own (sequence a b) b p (inr (inr (same b))), q) (omega (arith, r .0), (omega (arith, r .0), r .1))
   fronts-kept n (select a b) rest h p q r =
       all-join (Front-of c vs) _ _
-        (fronts-kept n a rest (omega (arith, h)) (own (select a b) a p (inr (inl (same a)))) q (omega (arith, r .0), r .1))
-        (fronts-kept (n + most-fronts a) b rest (omega (arith, h)) (own (select a b) b p (inr (inr (same b)))) q (omega (arith, r .0), r .1))
+      (fronts-kept n a rest (omega (arith, h)) (own (select a b) a p (inr (inl (same a)))) q (omega (arith, r .0), r .1))
+      (fronts-kept (n + most-fronts a) b rest (omega (arith, h)) (own (select a b) b p (inr (inr (same b)))) q (omega (arith, r .0), r .1))
   fronts-kept n (guard e a) rest h p q r =
       all-guarded (Front-of c vs) (is-true (eval e vs)) _ (fronts-kept n a rest h (own (guard e a) a p (inr (same a))) q (omega (arith, r .0), r .1))
   fronts-kept n (branch e a b) rest h p q r =
       two (eval e vs) n (a ∷ rest) (b ∷ rest) h
-        (own (branch e a b) a p (inr (inl (same a))), q) (omega (arith, r .0), r .1)
-        (own (branch e a b) b p (inr (inr (same b))), q) (omega (arith, r .0), r .1)
+      (own (branch e a b) a p (inr (inl (same a))), q) (omega (arith, r .0), r .1)
+      (own (branch e a b) b p (inr (inr (same b))), q) (omega (arith, r .0), r .1)
   fronts-kept n (loop e a) rest h p q r =
       two (eval e vs) n (a ∷ loop e a ∷ rest) rest h
-        (own (loop e a) a p (inr (same a)), (p, q)) (omega (arith, r .0), (r .0, r .1))
-        q (r .1)
+      (own (loop e a) a p (inr (same a)), (p, q)) (omega (arith, r .0), (r .0, r .1))
+      q (r .1)
 
   left-kept : (left : List Stmt) → All Own left → Has-room left → All (Front-of c vs) (process-fronts vs left)
   left-kept [] q r = tt
   left-kept (s ∷ rest) q r = fronts-kept 0 s rest (omega (arith, few-fronts _ _ s (own-kept s (q .0)))) (q .0) (q .1) r
 
-some-deep : (s : Stmt) → 1 ≤ stmt-depth s
+pub some-deep : (s : Stmt) → 1 ≤ stmt-depth s
 some-deep skip = omega arith
 some-deep (assign v e) = omega arith
 some-deep (send c m es) = omega arith
@@ -216,4 +216,5 @@ pub class-laws : Class-laws
 class-laws = record {
   fresh = λ c k. record { kinds = refl; parts = (same (c .statement), tt); room = (omega (arith, k .statement-deep), tt) };
   fronts-kept = λ c vs left k p. left-kept c k vs (p .kinds) left (p .parts) (p .room);
-  few = λ c vs left p. few left (p .room) }
+  few = λ c vs left p. few left (p .room);
+}

@@ -30,7 +30,7 @@ guarded : (b : Bool) (n below : ℕ) (xs : List Front) → n ≤ below → Ascen
 guarded true n below xs l h = h
 guarded false n below xs l h = l
 
-numbered : (vs : List Val) (n : ℕ) (s : Stmt) (rest : List Stmt) → Ascend n (fronts vs n s rest) (n + most-fronts s)
+pub numbered : (vs : List Val) (n : ℕ) (s : Stmt) (rest : List Stmt) → Ascend n (fronts vs n s rest) (n + most-fronts s)
 numbered vs n skip rest = (omega arith, omega arith)
 numbered vs n (assign v e) rest = (omega arith, omega arith)
 numbered vs n (send c m es) rest = (omega arith, omega arith)

@@ -2,3 +2,6 @@
 pub mod counting;
 pub mod evaluation;
 pub mod facts;
+pub mod finding;
+pub mod front;
+pub mod left;
