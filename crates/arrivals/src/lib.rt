@@ -1,4 +1,6 @@
 // As what a channel arrives where processes meet, and outside.
+#![tactic(auto)]
+
 pub mod facts;
 pub mod table;
 pub mod travel;

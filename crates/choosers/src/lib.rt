@@ -1,4 +1,6 @@
 // Who takes the next step: the traits of choosers, what fairness promises, and four choosers.
+#![tactic(auto)]
+
 pub mod answer;
 pub mod chooser;
 mod find;

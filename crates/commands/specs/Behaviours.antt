@@ -1,5 +1,5 @@
 -- The command of a behaviour as its bytes have it.
-use Rattle.std.specs.Prelude.{ℕ, cond, List, [], ◌∷◌, Some, None, Option, ◌==◌}
+use Rattle.std.specs.Prelude.{ℕ, cond, List, [], ◌∷◌, None, Option, ◌==◌}
 use Rattle.commands.specs.declared.behaviour.BehaviourCommand.{BehaviourCommand}
 use Rattle.commands.specs.declared.behaviour.BehaviourCommand.TheVariants.{Proc, Par, Hide, Rename}
 use Rattle.commands.specs.Numbers.{four_bytes, one, two, four, place}

@@ -1,5 +1,5 @@
 -- Expressions, statements, behaviours, classes and files as trees.
-use Rattle.std.specs.Prelude.{ℕ, ◌+◌, Bool, List, [], ◌∷◌, length}
+use Rattle.std.specs.Prelude.{ℕ, ◌+◌, Bool, List, [], ◌∷◌}
 use Rattle.values.specs.declared.kind.Kind.{Kind}
 use Rattle.values.specs.declared.op.Op.{Op}
 use Rattle.values.specs.Values.{Val}

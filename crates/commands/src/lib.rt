@@ -1,4 +1,6 @@
 // The commands of a model file: their bytes and operands.
+#![tactic(auto)]
+
 pub mod behaviour;
 pub mod bytes;
 pub mod expression;

@@ -1,12 +1,12 @@
 -- The check of a behaviour, one command at a time.
-use Rattle.std.proofs.Common.{◌≡◌, ℕ, zero, suc, ◌+◌, ◌-◌, ◌<◌, Bool, true, ◌&&◌, eqb, ltb, List, drop, Some, None, Ok, Err, sym, refl, ap, ◌∙◌, arith}
+use Rattle.std.proofs.Common.{◌≡◌, ℕ, zero, suc, ◌+◌, ◌-◌, ◌<◌, ◌&&◌, eqb, ltb, List, drop, Some, None, Ok, Err, arith}
 use Rattle.commands.specs.declared.behaviour.BehaviourCommand.{BehaviourCommand}
 use Rattle.commands.specs.declared.behaviour.BehaviourCommand.TheVariants.{Proc, Par, Hide, Rename}
 use Rattle.commands.specs.Behaviours.{behaviour_command}
 use Rattle.files.specs.declared.fault.FaultKind.TheVariants.{Command, Depth, Operand}
 use Rattle.files.specs.declared.fault.Layer.TheVariants.{Behaviour}
 use Rattle.files.specs.declared.fault.LoadFault.{LoadFault}
-use Rattle.files.specs.Checked.{fault, ask, known, ◌>>=◌, ◌>>◌}
+use Rattle.files.specs.Checked.{fault, ask}
 use Rattle.files.specs.Behaviours.{check_behaviour, behaviour_parts, check_process, Procs}
 
 module _ (f : List ℕ) (n : ℕ) where

@@ -1,5 +1,5 @@
 -- The check of an expression, one command at a time.
-use Rattle.std.proofs.Common.{◌≡◌, ℕ, zero, suc, ◌+◌, ◌-◌, ◌<◌, List, drop, Some, None, Ok, Err, sym, refl, ap, ◌∙◌, arith}
+use Rattle.std.proofs.Common.{◌≡◌, ℕ, zero, suc, ◌+◌, ◌-◌, ◌<◌, List, drop, Some, None, Ok, Err, arith}
 use Rattle.values.specs.declared.kind.Kind.{Kind}
 use Rattle.values.specs.declared.op.Op.{Op}
 use Rattle.commands.specs.declared.expression.ExpressionCommand.{ExpressionCommand}
@@ -9,7 +9,7 @@ use Rattle.commands.specs.Expressions.{expression_command}
 use Rattle.files.specs.declared.fault.FaultKind.TheVariants.{Command, Depth}
 use Rattle.files.specs.declared.fault.Layer.TheVariants.{Expression}
 use Rattle.files.specs.declared.fault.LoadFault.{LoadFault}
-use Rattle.files.specs.Checked.{fault, known, ◌>>=◌}
+use Rattle.files.specs.Checked.{fault}
 use Rattle.files.specs.Expressions.{check_expression, expression_parts, check_leaf, first_fits, both_fit, one_fits, End}
 
 pub unknown : (d : ℕ) (f : List ℕ) (at : ℕ) (ks : List Kind) → None ≡ expression_command (drop at f) → Err (fault Command at Expression) ≡ check_expression d f at ks

@@ -1,7 +1,6 @@
 -- The check of classes, one by one.
-use Rattle.std.proofs.Common.{◌≡◌, ℕ, zero, suc, ◌+◌, ◌-◌, ◌<◌, ◌≤◌, List, length, take, Ok, Err, sym, refl, ap, ◌∙◌, arith, le-leb}
+use Rattle.std.proofs.Common.{◌≡◌, ℕ, suc, ◌+◌, ◌-◌, ◌<◌, ◌≤◌, List, length, take, Ok, Err, ap, ◌∙◌, arith, le-leb}
 use Rattle.files.specs.declared.fault.LoadFault.{LoadFault}
-use Rattle.files.specs.Checked.{ask, ◌>>=◌, ◌>>◌}
 use Rattle.files.specs.Files.{check_body, check_class, check_classes}
 use Rattle.files.specs.Heads.{word_at}
 

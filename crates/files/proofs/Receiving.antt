@@ -1,11 +1,11 @@
 -- The ways out of the check of a RECV.
-use Rattle.std.proofs.Common.{◌≡◌, ℕ, zero, suc, ◌+◌, Bool, true, false, ◌&&◌, List, length, take, Ok, Err, sym, refl, ap, ◌∙◌}
+use Rattle.std.proofs.Common.{◌≡◌, ℕ, zero, suc, ◌+◌, Bool, true, false, ◌&&◌, List, length, take, Ok, Err, refl, ap}
 use Rattle.values.specs.declared.kind.Kind.{Kind}
 use Rattle.commands.specs.Trees.{Declaration}
 use Rattle.files.specs.declared.fault.FaultKind.TheVariants.{Operand, Undeclared}
 use Rattle.files.specs.declared.fault.Layer.TheVariants.{Statement}
 use Rattle.files.specs.declared.fault.LoadFault.{LoadFault}
-use Rattle.files.specs.Checked.{fault, ask, ◌>>=◌, ◌>>◌}
+use Rattle.files.specs.Checked.{fault, ask}
 use Rattle.files.specs.Heads.{kinds_at}
 use Rattle.files.specs.Statements.{check_receive, exchange_fits, variables_fit, exchange, declared, kinds_of}
 

@@ -1,5 +1,5 @@
 -- A check repeated over items of one size, one item at a time.
-use Rattle.std.proofs.Common.{◌≡◌, ℕ, zero, suc, ◌+◌, ◌-◌, ◌*◌, ◌<◌, ◌≤◌, Ok, Err, sym, refl, ap, ◌∙◌, mul-zero, mul-one, mul-add, arith}
+use Rattle.std.proofs.Common.{◌≡◌, ℕ, suc, ◌+◌, ◌-◌, ◌*◌, ◌<◌, Ok, Err, sym, ◌∙◌, mul-zero, mul-one, mul-add, arith}
 use Rattle.files.specs.declared.fault.LoadFault.{LoadFault}
 use Rattle.files.specs.Checked.{Checked, repeated, ◌>>◌}
 

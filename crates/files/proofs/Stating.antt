@@ -1,5 +1,5 @@
 -- The check of a statement, one command at a time.
-use Rattle.std.proofs.Common.{◌≡◌, ℕ, zero, suc, ◌+◌, ◌-◌, ◌<◌, List, drop, Some, None, Ok, Err, sym, refl, ap, ◌∙◌, arith}
+use Rattle.std.proofs.Common.{◌≡◌, ℕ, zero, suc, ◌+◌, ◌-◌, ◌<◌, List, drop, Some, None, Ok, Err, arith}
 use Rattle.values.specs.declared.kind.Kind.{Kind}
 use Rattle.commands.specs.declared.statement.StatementCommand.{StatementCommand}
 use Rattle.commands.specs.declared.statement.StatementCommand.TheVariants.{Skip, Set, Send, Recv, Seq, Sel, Guard, If, Do}
@@ -8,8 +8,8 @@ use Rattle.commands.specs.Trees.{Declaration}
 use Rattle.files.specs.declared.fault.FaultKind.TheVariants.{Command, Depth}
 use Rattle.files.specs.declared.fault.Layer.TheVariants.{Statement}
 use Rattle.files.specs.declared.fault.LoadFault.{LoadFault}
-use Rattle.files.specs.Checked.{Checked, fault, known, ◌>>=◌, ◌>>◌}
-use Rattle.files.specs.Expressions.{End, check_expression}
+use Rattle.files.specs.Checked.{fault, ◌>>=◌}
+use Rattle.files.specs.Expressions.{check_expression}
 use Rattle.files.specs.Statements.{Behind, check_statement, statement_parts, check_set, check_send, check_receive, check_test, placed, few_fronts}
 
 module _ (f : List ℕ) (ks : List Kind) (ds : List Declaration) where

@@ -1,5 +1,5 @@
 -- The values of a SEND, one by one.
-use Rattle.std.proofs.Common.{◌≡◌, ℕ, zero, suc, ◌+◌, ◌-◌, ◌<◌, List, [], ◌∷◌, ◌++◌, IsErrAnd, IfOk, Ok, Err, Result, sym, refl, ap, ◌∙◌, append_assoc, append-nil, arith}
+use Rattle.std.proofs.Common.{◌≡◌, ℕ, suc, ◌+◌, ◌-◌, ◌<◌, List, [], ◌∷◌, ◌++◌, IsErrAnd, IfOk, Ok, Err, Result, sym, refl, ap, ◌∙◌, append_assoc, append-nil, arith}
 use Rattle.values.specs.declared.kind.Kind.{Kind}
 use Rattle.files.specs.declared.fault.LoadFault.{LoadFault}
 use Rattle.files.specs.declared.kinds.Kinds.{Kinds}

@@ -1,5 +1,5 @@
 -- The check of a whole file: the first fault in file order, or what loading needs.
-use Rattle.std.specs.Prelude.{ℕ, zero, suc, ◌+◌, ◌&&◌, List, length, take, Ok, Err, ◌==◌, nat_le}
+use Rattle.std.specs.Prelude.{ℕ, zero, suc, ◌+◌, ◌&&◌, List, length, take, Ok, ◌==◌, nat_le}
 use Rattle.files.specs.declared.fault.FaultKind.TheVariants.{Length, FirstBytes, ClassHead, Command}
 use Rattle.files.specs.declared.fault.Layer.TheVariants.{File as FileL, ClassHead as ClassHeadL, Statement as StatementL, Behaviour as BehaviourL}
 use Rattle.files.specs.Checked.{Checked, ask, ◌>>=◌, ◌>>◌}

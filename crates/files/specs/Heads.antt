@@ -1,12 +1,12 @@
 -- The head of a class: its variables and declarations, as they stand in the bytes, and their check.
-use Rattle.std.specs.Prelude.{◌≡◌, ℕ, zero, suc, ◌+◌, ◌*◌, ◌≤◌, Bool, true, false, cond, ◌&&◌, ◌||◌, List, [], ◌∷◌, map, length, ℤ, Ok, Err, ◌==◌, nat_le, nat_lt, slice_index}
+use Rattle.std.specs.Prelude.{◌≡◌, ℕ, zero, suc, ◌+◌, ◌*◌, ◌≤◌, Bool, cond, ◌||◌, List, [], ◌∷◌, length, ℤ, ◌==◌, nat_le, nat_lt, slice_index}
 use Rattle.std.specs.Int.{w32}
 use Rattle.std.proofs.Common.{to_z}
 use Rattle.values.specs.declared.kind.Kind.{Kind}
 use Rattle.values.specs.declared.kind.Kind.TheVariants.{Integer, Boolean}
 use Rattle.values.specs.declared.row.Row.{Row}
 use Rattle.values.specs.Rows.{valid, value_of_row}
-use Rattle.values.specs.Values.{Val, kind_of}
+use Rattle.values.specs.Values.{Val}
 use Rattle.commands.specs.Numbers.{two_bytes, four_bytes}
 use Rattle.commands.specs.Trees.{Declaration}
 use Rattle.files.specs.declared.fault.FaultKind.TheVariants.{ClassHead}

@@ -1,4 +1,6 @@
 // Model files: which bytes are admitted, and the fault of those that are refused.
+#![tactic(auto)]
+
 pub(crate) mod behaviour;
 pub(crate) mod bytes;
 pub(crate) mod checked;

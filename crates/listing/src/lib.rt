@@ -1,3 +1,5 @@
 // The steps that the fronts of all processes make.
+#![tactic(auto)]
+
 pub mod fill;
 pub mod offer;

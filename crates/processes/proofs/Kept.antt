@@ -1,21 +1,21 @@
 -- A process keeps its class, whatever fronts are taken.
-use Rattle.std.proofs.Common.{◌≡◌, ℕ, zero, suc, ◌+◌, ◌<◌, ◌≤◌, Bool, true, false, cond, not, ltb, ◌⊎◌, List, [], ◌∷◌, ◌++◌, map, length, get_or, set, Some, None, Option, sym, refl, ap, ◌∙◌, subst, inl, inr, ⊎_elim, arith}
+use Rattle.std.proofs.Common.{◌≡◌, ℕ, zero, suc, ◌+◌, ◌<◌, ◌≤◌, Bool, true, false, cond, not, ltb, List, [], ◌∷◌, ◌++◌, map, length, get_or, set, Some, None, sym, refl, ap, ◌∙◌, subst, inl, inr, ⊎_elim, arith}
 use Rattle.std.specs.List.{slice_get}
 use Rattle.values.specs.declared.kind.Kind.{Kind}
 use Rattle.values.specs.declared.kind.Kind.TheVariants.{Boolean}
 use Rattle.values.specs.declared.op.Op.{Op}
 use Rattle.values.specs.declared.op.Op.TheVariants.{Add, Sub, Mul, Div, Less, Same, And, Or}
 use Rattle.values.specs.Ops.{gives, apply}
-use Rattle.values.specs.Values.{Val, integer, boolean, kind_of}
+use Rattle.values.specs.Values.{Val, integer, kind_of}
 use Rattle.commands.specs.declared.expression.Leaf.{Leaf}
 use Rattle.commands.specs.declared.expression.Leaf.TheVariants.{Int, Bool as BoolL, Iunk, Var}
-use Rattle.commands.specs.Depths.{expr_depth, stmt_depth}
+use Rattle.commands.specs.Depths.{stmt_depth}
 use Rattle.commands.specs.Trees.{Expr, leaf, binary, negation, Stmt, skip, assign, send, receive, sequence, select, guard, branch, loop, Declaration, Class}
 use Rattle.files.specs.Statements.{exchange}
 use Rattle.admission.specs.Conditions.{LeafKept, ExprKept, ExprsKept, StmtKept, HaveKinds, Declares, All, ClassKept, most_fronts}
 use Rattle.processes.specs.Evaluation.{eval, leaf_value}
 use Rattle.processes.specs.Fronts.{Action, internal, store, sends, receives, Front, front, is_true, is_false, offered, fronts, process_fronts}
-use Rattle.processes.specs.Classes.{Part, HasRoom, ProcessOf, stored, after, Permitted, Brings, FrontOf, ClassLaws}
+use Rattle.processes.specs.Classes.{Part, HasRoom, stored, after, Permitted, Brings, FrontOf, ClassLaws}
 
 -- parts of parts are parts
 same : (s : Stmt) → Part s s

@@ -1,11 +1,11 @@
 -- The front of a number among the fronts of a statement.
-use Rattle.std.proofs.Common.{◌≡◌, ℕ, zero, suc, ◌+◌, ◌-◌, ◌<◌, ◌≤◌, Bool, true, false, cond, not, eqb, List, [], ◌∷◌, ◌++◌, Some, None, Option, sym, refl, ap, ◌∙◌, subst, arith, eq-eqb, ne_eqb}
+use Rattle.std.proofs.Common.{◌≡◌, ℕ, zero, suc, ◌+◌, ◌<◌, ◌≤◌, true, false, cond, not, eqb, List, [], ◌∷◌, ◌++◌, Some, None, refl, ap, arith, eq-eqb, ne_eqb}
 use Rattle.values.specs.Values.{Val, integer, boolean}
 use Rattle.processes.specs.declared.front.Action.{Action as ActionC}
 use Rattle.processes.specs.declared.front.Action.TheVariants.{Internal}
 use Rattle.processes.specs.declared.left.Left.{Left}
 use Rattle.processes.specs.Found.{Answers, StandsFor, front_numbered, one_front, two_fronts}
-use Rattle.processes.specs.Fronts.{Action, internal, Front, front, is_true, is_false, offered}
+use Rattle.processes.specs.Fronts.{Front, is_true, is_false, offered}
 use Rattle.processes.specs.Laws.{Ascend}
 
 module _ (n : ℕ) where

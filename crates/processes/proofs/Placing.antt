@@ -1,5 +1,5 @@
 -- The first place of what remains.
-use Rattle.std.proofs.Common.{◌≡◌, ℕ, zero, suc, ◌+◌, ◌-◌, ◌<◌, ◌≤◌, List, [], ◌∷◌, length, get_or, set, sym, refl, ap, ◌∙◌, arith}
+use Rattle.std.proofs.Common.{◌≡◌, ℕ, zero, suc, ◌+◌, ◌-◌, ◌<◌, ◌≤◌, List, [], ◌∷◌, length, get_or, set, refl, ap, ◌∙◌, arith}
 use Rattle.processes.specs.Places.{backwards}
 
 pub top_of : (n : ℕ) (ps : List ℕ) → 1 ≤ n → get_or ps (n - 1) 0 ∷ backwards (n - 1) ps ≡ backwards n ps

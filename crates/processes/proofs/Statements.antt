@@ -1,5 +1,5 @@
 -- The front of a number of each statement, from what the code finds at its place.
-use Rattle.std.proofs.Common.{◌≡◌, ℕ, zero, suc, ◌+◌, ◌-◌, ◌<◌, ◌≤◌, Bool, true, false, cond, not, List, [], ◌∷◌, ◌++◌, map, length, take, replicate, Some, None, Option, sym, refl, ap, ◌∙◌, subst, arith}
+use Rattle.std.proofs.Common.{◌≡◌, ℕ, zero, suc, ◌+◌, ◌-◌, ◌<◌, ◌≤◌, true, false, List, [], ◌∷◌, map, length, take, replicate, None, Option, sym, refl, ap, ◌∙◌, subst, arith}
 use Rattle.std.proofs.lemmas.List.{take_at}
 use Rattle.commands.specs.Bytes.{padded}
 use Rattle.values.specs.declared.row.Row.{Row}
@@ -9,15 +9,14 @@ use Rattle.commands.specs.Depths.{stmt_depth}
 use Rattle.commands.specs.Stands.{StmtAt}
 use Rattle.commands.specs.Trees.{Expr, Stmt, skip, assign, send, receive, sequence, select, guard, branch, loop, Class}
 use Rattle.admission.specs.Conditions.{most_fronts}
-use Rattle.processes.specs.declared.front.Action.{Action as ActionC}
 use Rattle.processes.specs.declared.front.Action.TheVariants.{Internal, Store, Send, Receive}
 use Rattle.processes.specs.declared.front.Front.{Front as FrontC}
 use Rattle.processes.specs.declared.front.Sent.{Sent}
 use Rattle.processes.specs.declared.front.Targets.{Targets}
 use Rattle.processes.specs.declared.left.Left.{Left}
 use Rattle.processes.specs.Evaluation.{eval}
-use Rattle.processes.specs.Found.{Answers, ProcessAt, StandsFor, StmtsAt, front_numbered, one_front, two_fronts, values_in, variables_in, Ready}
-use Rattle.processes.specs.Fronts.{internal, store, sends, receives, Front, front, is_true, fronts}
+use Rattle.processes.specs.Found.{Answers, ProcessAt, StmtsAt, front_numbered, one_front, two_fronts, values_in, variables_in, Ready}
+use Rattle.processes.specs.Fronts.{internal, store, sends, receives, front, is_true, fronts}
 use Rattle.processes.specs.Places.{backwards, places_of}
 use Rattle.processes.proofs.Kept.{part_kept, class_laws}
 use Rattle.processes.proofs.Numbered.{numbered}

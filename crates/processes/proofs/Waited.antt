@@ -1,11 +1,11 @@
 -- A process has no front exactly when it has ended or waits only at guards that are not true.
-use Rattle.std.proofs.Common.{◌≡◌, ℕ, ◌+◌, Bool, true, false, cond, not, ◌⊎◌, List, [], ◌∷◌, ◌++◌, Some, None, Option, sym, refl, ap, ◌∙◌, subst, inl, inr, ⊎_elim, arith}
+use Rattle.std.proofs.Common.{◌≡◌, ℕ, ◌+◌, Bool, true, false, cond, not, List, [], ◌∷◌, ◌++◌, Some, None, sym, refl, subst, inl, inr, ⊎_elim, arith}
 use Rattle.values.specs.Values.{Val, integer, boolean}
-use Rattle.commands.specs.Trees.{Expr, Stmt, skip, assign, send, receive, sequence, select, guard, branch, loop}
+use Rattle.commands.specs.Trees.{Stmt, skip, assign, send, receive, sequence, select, guard, branch, loop}
 use Rattle.admission.specs.Conditions.{most_fronts}
 use Rattle.processes.specs.Evaluation.{eval}
 use Rattle.processes.specs.Fronts.{Front, front, internal, is_true, is_false, offered, fronts, process_fronts}
-use Rattle.processes.specs.Waiting.{Place, at_guard, at_command, Waits, ProcessWaits, IsGuard, FrontsAndWaiting}
+use Rattle.processes.specs.Waiting.{Place, at_command, Waits, ProcessWaits, IsGuard, FrontsAndWaiting}
 
 not_empty : {A : Type 0} (x : Front) (xs : List Front) → (x ∷ xs) ≡ [] → A
 not_empty x xs e = absurd (let z : ◌≡◌ {A = ℕ} 0 1 = cc in omega arith)

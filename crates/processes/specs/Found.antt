@@ -1,5 +1,5 @@
 -- How a front in the code stands for a front of trees.
-use Rattle.std.specs.Prelude.{◌≡◌, ℕ, ◌≤◌, Bool, cond, not, List, [], ◌∷◌, map, length, take, Some, None, Option, ◌==◌}
+use Rattle.std.specs.Prelude.{◌≡◌, ℕ, ◌≤◌, cond, not, List, [], ◌∷◌, map, length, take, Some, None, Option, ◌==◌}
 use Rattle.values.specs.declared.kind.Kind.{Kind}
 use Rattle.values.specs.Rows.{value_of_row}
 use Rattle.values.specs.Values.{Val}

@@ -1,7 +1,7 @@
 -- What a process can do next.
 use Rattle.std.specs.Prelude.{ℕ, ◌+◌, Bool, true, false, cond, not, List, [], ◌∷◌, ◌++◌, map, Some, None, Option}
 use Rattle.values.specs.Values.{Val, as_truth}
-use Rattle.commands.specs.Trees.{Expr, Stmt, skip, assign, send, receive, sequence, select, guard, branch, loop}
+use Rattle.commands.specs.Trees.{Stmt, skip, assign, send, receive, sequence, select, guard, branch, loop}
 use Rattle.admission.specs.Conditions.{most_fronts}
 use Rattle.processes.specs.Evaluation.{eval}
 

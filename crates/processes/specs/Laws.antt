@@ -1,6 +1,6 @@
 -- Laws of fronts.
-use Rattle.std.specs.Prelude.{◌≡◌, ℕ, ◌+◌, ◌<◌, ◌≤◌, List, [], ◌∷◌, None}
-use Rattle.values.specs.Values.{Val, boolean}
+use Rattle.std.specs.Prelude.{◌≡◌, ℕ, ◌+◌, ◌≤◌, List, [], ◌∷◌}
+use Rattle.values.specs.Values.{Val}
 use Rattle.commands.specs.declared.expression.Leaf.TheVariants.{Bool as BoolL}
 use Rattle.commands.specs.Trees.{Stmt, leaf, guard}
 use Rattle.admission.specs.Conditions.{most_fronts}

@@ -1,9 +1,9 @@
 -- Where a process waits, apart from its fronts.
-use Rattle.std.specs.Prelude.{◌≡◌, ℕ, true, false, ◌⊎◌, List, [], ◌∷◌}
+use Rattle.std.specs.Prelude.{◌≡◌, true, false, ◌⊎◌, List, [], ◌∷◌}
 use Rattle.values.specs.Values.{Val}
 use Rattle.commands.specs.Trees.{Expr, Stmt, skip, assign, send, receive, sequence, select, guard, branch, loop}
 use Rattle.processes.specs.Evaluation.{eval}
-use Rattle.processes.specs.Fronts.{Front, is_true, fronts, process_fronts}
+use Rattle.processes.specs.Fronts.{is_true, process_fronts}
 
 -- at a guard that is not true, or at a command
 pub data Place : Type 0 where

@@ -1,4 +1,6 @@
 // What one process can do next.
+#![tactic(auto)]
+
 pub mod counting;
 pub mod evaluation;
 pub mod facts;

@@ -1,4 +1,6 @@
 // Step records, journal records, and the one list that holds either.
+#![tactic(auto)]
+
 pub mod list;
 pub mod record;
 pub mod step;

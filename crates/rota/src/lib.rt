@@ -1,4 +1,6 @@
 // Turns of a chooser over given closed steps, for trying choosers out.
+#![tactic(auto)]
+
 pub mod choice;
 pub mod turns;
 pub mod words;

@@ -1,4 +1,6 @@
 // A sheet of figures: an expression in prefix form, checked and worked out operation by operation.
+#![tactic(auto)]
+
 pub mod check;
 pub mod fault;
 pub mod line;

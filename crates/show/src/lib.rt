@@ -1,2 +1,4 @@
 // The command `show`: a model file as text.
+#![tactic(auto)]
+
 pub mod show;

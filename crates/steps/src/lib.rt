@@ -1,3 +1,5 @@
 // The steps of a model, and the model after one.
+#![tactic(auto)]
+
 pub mod facts;
 pub mod refusal;

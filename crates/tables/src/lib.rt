@@ -1,4 +1,6 @@
 // Processes in fixed memory: what they can do, and what they are after it.
+#![tactic(auto)]
+
 pub mod moving;
 pub mod offers;
 pub mod table;

@@ -1,13 +1,11 @@
 -- What is read from a text.
-use Rattle.std.proofs.Common.{◌≡◌, ℕ, ◌+◌, ◌<◌, Bool, true, false, cond, not, ◌&&◌, eqb, List, [], ◌∷◌, length, get_or, drop, ℤ, pos, negsuc, Ok, Err, codes, Decides, Result, sym, refl, ap, ◌∙◌, add-one, arith, drop-cons, w32, SFits, rules}
+use Rattle.std.proofs.Common.{◌≡◌, ℕ, ◌+◌, ◌<◌, Bool, true, false, cond, ◌&&◌, List, length, get_or, drop, ℤ, pos, negsuc, Ok, Err, codes, Decides, refl, ap, ◌∙◌, add-one, arith, drop-cons, w32, SFits}
 use Rattle.std.proofs.lemmas.Slice.Eq.{bytes_eq-Decides}
 use Rattle.std.proofs.lemmas.Bool.Decides.{nat_tests}
 use Rattle.std.proofs.lemmas.Str.Parse.{IsNumeralModel, numerals_by_value, tells_all_ascii_digits}
-use Rattle.std.specs.Result.{OkIff}
-use Rattle.std.specs.Str.Parse.{without_leading_sign, signed_digits_value, IsNumeral, ParsesSigned, digits_value}
+use Rattle.std.specs.Str.Parse.{without_leading_sign, signed_digits_value, IsNumeral, digits_value}
 use Rattle.std.specs.Char.{is_ascii_digit}
 use Rattle.std.specs.Str.{all_ascii_digits, bytes_eq}
-use Rattle.values.specs.declared.value.TextFault.{TextFault}
 use Rattle.values.specs.declared.value.TextFault.TheVariants.{NotAValue, OutOfRange}
 use Rattle.values.specs.Texts.{is_numeral, read_signed, read_value, as_integer}
 use Rattle.values.specs.Values.{in_range}

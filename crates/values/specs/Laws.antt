@@ -1,5 +1,5 @@
 -- Laws of values that do not follow the program's steps, and worked samples.
-use Rattle.std.specs.Prelude.{◌≡◌, ℕ, ◌+◌, ◌*◌, ◌<◌, ◌≤◌, Bool, true, false, not, ◌&&◌, ◌||◌, ◌⊎◌, ℤ, pos, negsuc, Some, None, Ok, Option, int_lt, unsigned_abs}
+use Rattle.std.specs.Prelude.{◌≡◌, ◌+◌, ◌*◌, ◌<◌, ◌≤◌, Bool, true, false, not, ◌&&◌, ◌||◌, ◌⊎◌, ℤ, pos, negsuc, Some, None, Ok, Option, int_lt, unsigned_abs}
 use Rattle.values.specs.declared.op.Op.{Op}
 use Rattle.values.specs.Ops.{op_name, op_of_name}
 use Rattle.values.specs.Texts.{read_value, text_of}

@@ -1,4 +1,6 @@
 // Values of the engine: Integers and Booleans that may be unknown, and the operations on them.
+#![tactic(auto)]
+
 pub mod facts;
 pub mod kind;
 pub mod op;

@@ -1,4 +1,6 @@
 // A shell over the engine: one command to a line of standard input, and an answer for each.
+#![tactic(auto)]
+
 use input::{Next, next_line};
 use shell::answer;
 

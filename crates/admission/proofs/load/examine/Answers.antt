@@ -6,7 +6,7 @@ use Rattle.admission.proofs.load.examine.Goals as goal
 
 pub returns : goal.returns
 returns c =
-    let small = bytes_from c.args.file.now (λ i. omega (arith, (c.type-inv.file i).fits)) in
+    let small = bytes_from c.args.file.now (λ i. omega (arith, (c.type_inv.file i).fits)) in
     record {
       exact = c.check_file.ensures;
       admitted = decides c.args.file.now c.check_file.result small c.check_file.ensures;

@@ -6,7 +6,7 @@ use Rattle.arrivals.proofs.Below.{first_kept, second_kept, hide_kept, rename_kep
 use Rattle.arrivals.proofs.travel.+meeting_channel.Goals as goal
 
 pub unreachable-requires : goal.unreachable-requires
-unreachable-requires t c = no_behaviour c.args.file.now c.args.at c.requires.stands.1 c.in-default.ensures.exact c.requires.stands.2.here
+unreachable-requires t c = no_behaviour c.args.file.now c.args.at c.requires.stands.1 c.in_default.ensures.exact c.requires.stands.2.here
 
 pub processes-in-first-requires : goal.processes-in-first-requires
 processes-in-first-requires t c =

@@ -5,7 +5,7 @@ use Rattle.parts.proofs.Walking.{behaviour_here, no_behaviour}
 use Rattle.arrivals.proofs.travel.+processes_in.Goals as goal
 
 pub unreachable-requires : goal.unreachable-requires
-unreachable-requires t c = no_behaviour c.args.file.now c.args.at c.requires.0 c.in-default.ensures.exact c.requires.1
+unreachable-requires t c = no_behaviour c.args.file.now c.args.at c.requires.0 c.in_default.ensures.exact c.requires.1
 
 pub processes-in-first-requires : goal.processes-in-first-requires
 processes-in-first-requires t c =

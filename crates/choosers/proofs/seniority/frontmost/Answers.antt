@@ -14,7 +14,7 @@ returns-in-Some c =
     }
 
 pub loop-p-preserved : goal.loop-p-preserved
-loop-p-preserved c = c.loop-p.invariant ∙ senior_more c.args.order.now c.args.closed.now c.loop-p.p-index c.loop-p-test.true (sym c.in-default.ensures)
+loop-p-preserved c = c.loop-p.invariant ∙ senior_more c.args.order.now c.args.closed.now c.loop-p.p-index c.loop-p-test.true (sym c.in_default.ensures)
 
 pub returns : goal.returns
 returns c = record { below = tt; answer = sym (c.loop-p.invariant ∙ senior_end c.args.order.now c.args.closed.now c.loop-p.p-index c.loop-p-test.false) }

@@ -7,7 +7,7 @@ pub loop-i-init : goal.loop-i-init
 loop-i-init c d h =
     let f = c.args.file.now in
     let all : c.args.class - 0 ≡ c.args.class = omega arith in
-    subst (λ n. Ahead f 4 n d) (sym all) (ahead_start f c.args.class d (bytes_from f (λ i. omega (arith, (c.type-inv.file i).fits))) h)
+    subst (λ n. Ahead f 4 n d) (sym all) (ahead_start f c.args.class d (bytes_from f (λ i. omega (arith, (c.type_inv.file i).fits))) h)
 
 pub end-of-class-at-requires : goal.end-of-class-at-requires
 end-of-class-at-requires c = omega (arith, ahead_within _ _ _ _ (c.loop-i.invariant c.requires.0 c.requires.1))
@@ -21,5 +21,5 @@ overflow-add-result c = omega (arith, ahead_within _ _ _ _ (c.loop-i.invariant c
 pub returns : goal.returns
 returns c d h =
     let f = c.args.file.now in
-    let small = bytes_from f (λ i. omega (arith, (c.type-inv.file i).fits)) in
+    let small = bytes_from f (λ i. omega (arith, (c.type_inv.file i).fits)) in
     class_begins f _ d small (file_short f _ d small h) (ahead_done f _ _ _ d c.loop-i-test.false (c.loop-i.invariant d h))

@@ -6,6 +6,6 @@ use Rattle.commands.proofs.behaviour.read_behaviour.Goals as goal
 pub returns : goal.returns
 returns c =
     record {
-      exact = c.first-behaviour.ensures.exact ∙ ap behaviour_command c.bytes_from.ensures;
-      long = within command_size behaviour_some _ c.args.file.now _ c.args.at c.bytes_from.ensures c.first-behaviour.ensures.long;
+      exact = c.first_behaviour.ensures.exact ∙ ap behaviour_command c.bytes_from.ensures;
+      long = within command_size behaviour_some _ c.args.file.now _ c.args.at c.bytes_from.ensures c.first_behaviour.ensures.long;
     }

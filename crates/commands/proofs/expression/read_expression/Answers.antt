@@ -6,6 +6,6 @@ use Rattle.commands.proofs.expression.read_expression.Goals as goal
 pub returns : goal.returns
 returns c =
     record {
-      exact = c.first-expression.ensures.exact ∙ ap expression_command c.bytes_from.ensures;
-      long = within command_size expression_some _ c.args.file.now _ c.args.at c.bytes_from.ensures c.first-expression.ensures.long;
+      exact = c.first_expression.ensures.exact ∙ ap expression_command c.bytes_from.ensures;
+      long = within command_size expression_some _ c.args.file.now _ c.args.at c.bytes_from.ensures c.first_expression.ensures.long;
     }

@@ -6,6 +6,6 @@ use Rattle.commands.proofs.statement.read_statement.Goals as goal
 pub returns : goal.returns
 returns c =
     record {
-      exact = c.first-statement.ensures.exact ∙ ap statement_command c.bytes_from.ensures;
-      long = within command_size statement_some _ c.args.file.now _ c.args.at c.bytes_from.ensures c.first-statement.ensures.long;
+      exact = c.first_statement.ensures.exact ∙ ap statement_command c.bytes_from.ensures;
+      long = within command_size statement_some _ c.args.file.now _ c.args.at c.bytes_from.ensures c.first_statement.ensures.long;
     }

@@ -1,4 +1,4 @@
-use Rattle.std.proofs.Common.{◌≡◌, ℕ, sym, ap, ◌∙◌, arith}
+use Rattle.std.proofs.Common.{ℕ, sym, ◌∙◌, arith}
 use Rattle.files.specs.Checked.{Checked}
 use Rattle.files.specs.Expressions.{End, check_expression}
 use Rattle.files.specs.Heads.{kinds_at}
@@ -13,13 +13,13 @@ loop-i-init c =
 
 pub loop-i-preserved : goal.loop-i-preserved
 loop-i-preserved c =
-    let went = c.in-ok-value.ensures in
+    let went = c.in_ok-value.ensures in
     let inv = c.loop-i.invariant in
     (values_next _ _ _ _ _ _ _ _ inv.0 c.loop-i-test.true went.exact c.push.ensures.list, omega (arith, c.push.ensures.count, inv.1), omega (arith, inv.2, went.within.0), went.within.1)
 
-pub returns-in-err-value : goal.returns-in-err-value
-returns-in-err-value c =
-    let p = values_exit _ _ _ c.from-residual.ensures.1 (values_stop _ _ _ _ _ c.loop-i-test.true c.in-err-value.ensures.exact ∙ sym c.loop-i.invariant.0) in
+pub returns-in_err-value : goal.returns-in_err-value
+returns-in_err-value c =
+    let p = values_exit _ _ _ c.from_residual.ensures.1 (values_stop _ _ _ _ _ c.loop-i-test.true c.in_err-value.ensures.exact ∙ sym c.loop-i.invariant.0) in
     record { exact = p.0; within = p.1 }
 
 pub returns : goal.returns
@@ -28,6 +28,6 @@ returns c =
     let value : ℕ → Checked End = λ p. check_expression a.left a.file.now p (kinds_at a.variables.count a.file.now a.variables.at) in
     let inv = c.loop-i.invariant in
     record {
-      exact = values_all value a.count c.loop-i.-i _ _ (omega arith) ∙ sym inv.0;
+      exact = values_all value a.count c.loop-i._i _ _ (omega arith) ∙ sym inv.0;
       within = (inv.2, inv.3, omega (arith, inv.1));
     }

@@ -1,4 +1,4 @@
-use Rattle.std.proofs.Common.{◌≡◌, sym, refl, ◌∙◌, arith, le-ltb, lt-ltb}
+use Rattle.std.proofs.Common.{sym, refl, arith, le-ltb, lt-ltb}
 use Rattle.files.proofs.OperandScans.{below_scans}
 use Rattle.files.proofs.Scans.{stops, goes_on, at_end}
 use Rattle.files.specs.Statements.{all_below}

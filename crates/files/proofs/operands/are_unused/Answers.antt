@@ -1,4 +1,4 @@
-use Rattle.std.proofs.Common.{◌≡◌, sym, refl, ◌∙◌, arith, eq-eqb, ne_eqb}
+use Rattle.std.proofs.Common.{sym, refl, arith, eq-eqb, ne_eqb}
 use Rattle.files.proofs.OperandScans.{unused_scans}
 use Rattle.files.proofs.Scans.{stops, goes_on, at_end}
 use Rattle.files.specs.Statements.{all_unused}

@@ -23,7 +23,7 @@ module _ (u a b : Behaviour) (p : ℕ) (e : u ≡ parallel a b) where
       k ∙ sym (ap (λ v. get_or (process_classes v) p 0) e ∙ ap (λ i. get_or (process_classes a ++ process_classes b) i 0) at ∙ get_or-append-add (process_classes a) (process_classes b) (p - n) 0)
 
 pub unreachable-requires : goal.unreachable-requires
-unreachable-requires t c = no_behaviour c.args.file.now c.args.at c.requires.0 c.in-default.ensures.exact c.requires.1
+unreachable-requires t c = no_behaviour c.args.file.now c.args.at c.requires.0 c.in_default.ensures.exact c.requires.1
 
 pub processes-in-first-requires : goal.processes-in-first-requires
 processes-in-first-requires t c =

@@ -1,5 +1,5 @@
 use Rattle.std.proofs.Common.{◌-◌, length}
 use Rattle.parts.proofs.walk.+end_of_statement.Given as goal
 
-abbrev pub decreases-end-of-statement : goal.decreases-end-of-statement
-decreases-end-of-statement l = length l.file.now - l.at
+abbrev pub decreases-end_of_statement : goal.decreases-end_of_statement
+decreases-end_of_statement l = length l.file.now - l.at

@@ -5,4 +5,4 @@ use Rattle.parts.proofs.Walking.{Ahead}
 use Rattle.parts.proofs.walk.end_of_values.Given as goal
 
 abbrev pub invariant-loop-i : goal.invariant-loop-i
-invariant-loop-i l = (es : List Expr) → l.count ≡ length es → ExprsAt l.file l.at es → Ahead l.file (l.count - l.-i) l.end (l.at + exprs_size es)
+invariant-loop-i l = (es : List Expr) → l.count ≡ length es → ExprsAt l.file l.at es → Ahead l.file (l.count - l._i) l.end (l.at + exprs_size es)

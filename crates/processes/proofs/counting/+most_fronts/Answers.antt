@@ -1,29 +1,29 @@
-use Rattle.std.proofs.Common.{◌≡◌, ap, arith}
+use Rattle.std.proofs.Common.{ap, arith}
 use Rattle.commands.specs.Statements.{command_size}
 use Rattle.admission.specs.Conditions.{most_fronts}
 use Rattle.parts.proofs.Walking.{stmt_here, no_stmt}
 use Rattle.processes.proofs.counting.+most_fronts.Goals as goal
 
 pub unreachable-requires : goal.unreachable-requires
-unreachable-requires t c = no_stmt c.args.file.now c.args.at c.requires.0 c.in-default.ensures.exact c.requires.1
+unreachable-requires t c = no_stmt c.args.file.now c.args.at c.requires.0 c.in_default.ensures.exact c.requires.1
 
-pub most-fronts-requires : goal.most-fronts-requires
-most-fronts-requires t c =
+pub most_fronts-requires : goal.most_fronts-requires
+most_fronts-requires t c =
     let p = stmt_here c.args.file.now c.args.at c.requires.0 c.in-Seq.is c.in-Some.ensures.exact c.requires.1 in
     (omega (arith, c.decreases, ap command_size c.in-Seq.is, c.in-Some.ensures.long), (p.0, p.4, omega (arith, c.requires.2, ap most_fronts p.2)))
 
-pub most-fronts-first-requires : goal.most-fronts-first-requires
-most-fronts-first-requires t c =
+pub most_fronts-first-requires : goal.most_fronts-first-requires
+most_fronts-first-requires t c =
     let p = stmt_here c.args.file.now c.args.at c.requires.0 c.in-Sel.is c.in-Some.ensures.exact c.requires.1 in
     (omega (arith, c.decreases, ap command_size c.in-Sel.is, c.in-Some.ensures.long), (p.0, p.4, omega (arith, c.requires.2, ap most_fronts p.2)))
 
-pub most-fronts-other-requires : goal.most-fronts-other-requires
-most-fronts-other-requires t c =
+pub most_fronts-other-requires : goal.most_fronts-other-requires
+most_fronts-other-requires t c =
     let p = stmt_here c.args.file.now c.args.at c.requires.0 c.in-Sel.is c.in-Some.ensures.exact c.requires.1 in
     (omega (arith, c.decreases, p.3, ap command_size c.in-Sel.is, c.in-Some.ensures.long), (p.1, p.5, omega (arith, c.requires.2, ap most_fronts p.2)))
 
-pub most-fronts-requires-in-Guard : goal.most-fronts-requires-in-Guard
-most-fronts-requires-in-Guard t c =
+pub most_fronts-requires-in-Guard : goal.most_fronts-requires-in-Guard
+most_fronts-requires-in-Guard t c =
     let p = stmt_here c.args.file.now c.args.at c.requires.0 c.in-Guard.is c.in-Some.ensures.exact c.requires.1 in
     (omega (arith, c.decreases, p.3, ap command_size c.in-Guard.is, c.in-Some.ensures.long), (p.1, p.5, omega (arith, c.requires.2, ap most_fronts p.2)))
 
@@ -55,12 +55,12 @@ returns-in-Seq t c u s =
 pub returns-in-Sel : goal.returns-in-Sel
 returns-in-Sel t c u s =
     let p = stmt_here c.args.file.now c.args.at u c.in-Sel.is c.in-Some.ensures.exact s in
-    omega (arith, c.most-fronts-first.ensures p.0 p.4, c.most-fronts-other.ensures p.1 p.5, ap most_fronts p.2)
+    omega (arith, c.most_fronts-first.ensures p.0 p.4, c.most_fronts-other.ensures p.1 p.5, ap most_fronts p.2)
 
 pub returns-in-Guard : goal.returns-in-Guard
 returns-in-Guard t c u s =
     let p = stmt_here c.args.file.now c.args.at u c.in-Guard.is c.in-Some.ensures.exact s in
-    omega (arith, c.most-fronts-in-Guard.ensures p.1 p.5, ap most_fronts p.2)
+    omega (arith, c.most_fronts-in-Guard.ensures p.1 p.5, ap most_fronts p.2)
 
 pub returns-in-If : goal.returns-in-If
 returns-in-If t c u s =
@@ -72,7 +72,7 @@ returns-in-Do t c u s =
     let p = stmt_here c.args.file.now c.args.at u c.in-Do.is c.in-Some.ensures.exact s in
     omega (arith, ap most_fronts p.2)
 
-pub overflow-add-result : goal.overflow-add-result
-overflow-add-result t c =
+pub overflow_add-result : goal.overflow_add-result
+overflow_add-result t c =
     let p = stmt_here c.args.file.now c.args.at c.requires.0 c.in-Sel.is c.in-Some.ensures.exact c.requires.1 in
-    omega (arith, c.most-fronts-first.ensures p.0 p.4, c.most-fronts-other.ensures p.1 p.5, ap most_fronts p.2, c.requires.2)
+    omega (arith, c.most_fronts-first.ensures p.0 p.4, c.most_fronts-other.ensures p.1 p.5, ap most_fronts p.2, c.requires.2)

@@ -1,10 +1,10 @@
-use Rattle.std.proofs.Common.{◌≡◌, ap, ◌∙◌, arith}
+use Rattle.std.proofs.Common.{ap, ◌∙◌, arith}
 use Rattle.commands.specs.Expressions.{command_size}
 use Rattle.parts.proofs.Walking.{expr_here, no_expr}
 use Rattle.processes.proofs.evaluation.+evaluate.Goals as goal
 
 pub unreachable-requires : goal.unreachable-requires
-unreachable-requires t c = no_expr c.args.file.now c.args.at c.requires.0 c.in-default.ensures.exact c.requires.1
+unreachable-requires t c = no_expr c.args.file.now c.args.at c.requires.0 c.in_default.ensures.exact c.requires.1
 
 pub evaluate-first-requires : goal.evaluate-first-requires
 evaluate-first-requires t c =

@@ -1,6 +1,6 @@
-use Rattle.std.proofs.Common.{◌≡◌, ◌+◌, ◌∷◌, sym, refl, ap, ◌∙◌, subst, arith}
+use Rattle.std.proofs.Common.{◌+◌, ◌∷◌, sym, refl, ap, ◌∙◌, subst, arith}
 use Rattle.commands.specs.Statements.{command_size}
-use Rattle.admission.specs.Conditions.{most_fronts, StmtKept}
+use Rattle.admission.specs.Conditions.{most_fronts}
 use Rattle.parts.proofs.Walking.{stmt_here, no_stmt}
 use Rattle.processes.specs.Fronts.{is_true}
 use Rattle.processes.specs.Found.{Ready}
@@ -10,7 +10,7 @@ use Rattle.processes.proofs.finding.+front_at.Goals as goal
 
 pub unreachable-requires : goal.unreachable-requires
 unreachable-requires t c =
-    no_stmt c.args.file.now c.args.at c.requires.0 c.in-default.ensures.exact c.requires.2.here
+    no_stmt c.args.file.now c.args.at c.requires.0 c.in_default.ensures.exact c.requires.2.here
 
 pub evaluate-requires : goal.evaluate-requires
 evaluate-requires t c =
@@ -19,8 +19,8 @@ evaluate-requires t c =
     let p = stmt_here f c.args.at c.requires.0 c.in-Set.is c.in-Some.ensures.exact h0.here in
     (p.0, p.2)
 
-pub sent-values-sent-requires : goal.sent-values-sent-requires
-sent-values-sent-requires t c =
+pub sent_values-sent-requires : goal.sent_values-sent-requires
+sent_values-sent-requires t c =
     let f = c.args.file.now in
     let h0 = c.requires.2 in
     let p = stmt_here f c.args.at c.requires.0 c.in-Send.is c.in-Some.ensures.exact h0.here in
@@ -35,32 +35,32 @@ with-requires t c =
     let h = subst (λ u. Ready f c.args.at c.args.rest u c.requires.1) p.2 h0 in
     omega (arith, has_room f _ _ _ _ h (omega (arith, some_deep p.0)))
 
-pub front-at-requires : goal.front-at-requires
-front-at-requires t c =
+pub front_at-requires : goal.front_at-requires
+front_at-requires t c =
     let f = c.args.file.now in
     let h0 = c.requires.2 in
     let p = stmt_here f c.args.at c.requires.0 c.in-Seq.is c.in-Some.ensures.exact h0.here in
     let h = subst (λ u. Ready f c.args.at c.args.rest u c.requires.1) p.2 h0 in
     (omega (arith, c.decreases, ap command_size c.in-Seq.is, c.in-Some.ensures.long), (p.0, p.1 ∷ c.requires.1, sequence_ready f _ _ _ p.0 p.1 _ _ c.with.ensures h p.4 p.5))
 
-pub most-fronts-possible-requires : goal.most-fronts-possible-requires
-most-fronts-possible-requires t c =
+pub most_fronts-possible-requires : goal.most_fronts-possible-requires
+most_fronts-possible-requires t c =
     let f = c.args.file.now in
     let h0 = c.requires.2 in
     let p = stmt_here f c.args.at c.requires.0 c.in-Sel.is c.in-Some.ensures.exact h0.here in
     let h = subst (λ u. Ready f c.args.at c.args.rest u c.requires.1) p.2 h0 in
     (p.0, p.4, few_fronts h.kept.0 h.kept.1 p.0 h.kept.2.1)
 
-pub front-at-requires-then-number-possible : goal.front-at-requires-then-number-possible
-front-at-requires-then-number-possible t c =
+pub front_at-requires-then-number-possible : goal.front_at-requires-then-number-possible
+front_at-requires-then-number-possible t c =
     let f = c.args.file.now in
     let h0 = c.requires.2 in
     let p = stmt_here f c.args.at c.requires.0 c.in-Sel.is c.in-Some.ensures.exact h0.here in
     let h = subst (λ u. Ready f c.args.at c.args.rest u c.requires.1) p.2 h0 in
     (omega (arith, c.decreases, ap command_size c.in-Sel.is, c.in-Some.ensures.long), (p.0, c.requires.1, first_ready f _ _ _ p.0 p.1 h p.4))
 
-pub front-at-requires-else-number-possible : goal.front-at-requires-else-number-possible
-front-at-requires-else-number-possible t c =
+pub front_at-requires-else-number-possible : goal.front_at-requires-else-number-possible
+front_at-requires-else-number-possible t c =
     let f = c.args.file.now in
     let h0 = c.requires.2 in
     let p = stmt_here f c.args.at c.requires.0 c.in-Sel.is c.in-Some.ensures.exact h0.here in
@@ -74,8 +74,8 @@ evaluate-requires-in-Guard t c =
     let p = stmt_here f c.args.at c.requires.0 c.in-Guard.is c.in-Some.ensures.exact h0.here in
     (p.0, p.4)
 
-pub front-at-requires-then-is-true : goal.front-at-requires-then-is-true
-front-at-requires-then-is-true t c =
+pub front_at-requires-then-is_true : goal.front_at-requires-then-is_true
+front_at-requires-then-is_true t c =
     let f = c.args.file.now in
     let h0 = c.requires.2 in
     let p = stmt_here f c.args.at c.requires.0 c.in-Guard.is c.in-Some.ensures.exact h0.here in
@@ -138,55 +138,55 @@ pub returns-in-Set : goal.returns-in-Set
 returns-in-Set t c s ss k h =
     let f = c.args.file.now in
     let p = stmt_here f c.args.at s c.in-Set.is c.in-Some.ensures.exact h.here in
-    set_found f _ _ ss _ _ _ s k _ _ p.0 c.one-front-in-Set.ensures p.1 (c.of-row.ensures.back ∙ c.evaluate.ensures p.0 p.2) h
+    set_found f _ _ ss _ _ _ s k _ _ p.0 c.one_front-in-Set.ensures p.1 (c.of-row.ensures.back ∙ c.evaluate.ensures p.0 p.2) h
 
 pub returns-in-Send : goal.returns-in-Send
 returns-in-Send t c s ss k h =
     let f = c.args.file.now in
     let p = stmt_here f c.args.at s c.in-Send.is c.in-Some.ensures.exact h.here in
-    send_found f _ _ ss _ _ _ s k _ _ _ p.0 c.one-front-in-Send.ensures p.1 (c.sent-values-sent.ensures p.0 p.2 p.3) h
+    send_found f _ _ ss _ _ _ s k _ _ _ p.0 c.one_front-in-Send.ensures p.1 (c.sent_values-sent.ensures p.0 p.2 p.3) h
 
 pub returns-in-Recv : goal.returns-in-Recv
 returns-in-Recv t c s ss k h =
     let f = c.args.file.now in
     let p = stmt_here f c.args.at s c.in-Recv.is c.in-Some.ensures.exact h.here in
-    receive_found f _ _ ss _ _ _ s k _ _ _ p.0 c.one-front-in-Recv.ensures p.1 (received _ _ p.0 p.2 p.3) h
+    receive_found f _ _ ss _ _ _ s k _ _ _ p.0 c.one_front-in-Recv.ensures p.1 (received _ _ p.0 p.2 p.3) h
 
 pub returns-in-Seq : goal.returns-in-Seq
 returns-in-Seq t c s ss k h =
     let f = c.args.file.now in
     let p = stmt_here f c.args.at s c.in-Seq.is c.in-Some.ensures.exact h.here in
     let g = subst (λ u. Ready f c.args.at c.args.rest u ss) p.2 h in
-    sequence_found f c.args.at c.args.rest ss _ _ _ s k p.0 p.1 p.2 (c.front-at.ensures p.0 (p.1 ∷ ss) k (sequence_ready f _ _ _ p.0 p.1 _ _ c.with.ensures g p.4 p.5))
+    sequence_found f c.args.at c.args.rest ss _ _ _ s k p.0 p.1 p.2 (c.front_at.ensures p.0 (p.1 ∷ ss) k (sequence_ready f _ _ _ p.0 p.1 _ _ c.with.ensures g p.4 p.5))
 
 pub returns-then-number-possible : goal.returns-then-number-possible
 returns-then-number-possible t c s ss k h =
     let f = c.args.file.now in
     let p = stmt_here f c.args.at s c.in-Sel.is c.in-Some.ensures.exact h.here in
     let g = subst (λ u. Ready f c.args.at c.args.rest u ss) p.2 h in
-    first_found f c.args.at c.args.rest ss _ _ _ s k p.0 p.1 p.2 (omega (arith, c.most-fronts-possible.ensures p.0 p.4)) (c.front-at-then-number-possible.ensures p.0 ss k (first_ready f _ _ _ p.0 p.1 g p.4))
+    first_found f c.args.at c.args.rest ss _ _ _ s k p.0 p.1 p.2 (omega (arith, c.most_fronts-possible.ensures p.0 p.4)) (c.front_at-then-number-possible.ensures p.0 ss k (first_ready f _ _ _ p.0 p.1 g p.4))
 
 pub returns-else-number-possible : goal.returns-else-number-possible
 returns-else-number-possible t c s ss k h =
     let f = c.args.file.now in
     let p = stmt_here f c.args.at s c.in-Sel.is c.in-Some.ensures.exact h.here in
     let g = subst (λ u. Ready f c.args.at c.args.rest u ss) p.2 h in
-    second_found f c.args.at c.args.rest ss _ _ _ s k p.0 p.1 _ p.2 (c.most-fronts-possible.ensures p.0 p.4) (omega arith) (c.front-at-else-number-possible.ensures p.1 ss (k + most_fronts p.0) (second_ready f _ _ _ p.0 p.1 _ g p.5))
+    second_found f c.args.at c.args.rest ss _ _ _ s k p.0 p.1 _ p.2 (c.most_fronts-possible.ensures p.0 p.4) (omega arith) (c.front_at-else-number-possible.ensures p.1 ss (k + most_fronts p.0) (second_ready f _ _ _ p.0 p.1 _ g p.5))
 
-pub returns-then-is-true : goal.returns-then-is-true
-returns-then-is-true t c s ss k h =
+pub returns-then-is_true : goal.returns-then-is_true
+returns-then-is_true t c s ss k h =
     let f = c.args.file.now in
     let p = stmt_here f c.args.at s c.in-Guard.is c.in-Some.ensures.exact h.here in
     let g = subst (λ u. Ready f c.args.at c.args.rest u ss) p.2 h in
     let v = c.evaluate-in-Guard.ensures p.0 p.4 in
-    open_found f c.args.at c.args.rest ss _ _ _ s k p.0 p.1 p.2 (ap is_true (sym v) ∙ sym c.is-true.ensures ∙ c.if-is-true.true) (c.front-at-then-is-true.ensures p.1 ss k (guard_ready f _ _ _ p.0 p.1 _ g p.5))
+    open_found f c.args.at c.args.rest ss _ _ _ s k p.0 p.1 p.2 (ap is_true (sym v) ∙ sym c.is_true.ensures ∙ c.if-is_true.true) (c.front_at-then-is_true.ensures p.1 ss k (guard_ready f _ _ _ p.0 p.1 _ g p.5))
 
-pub returns-else-is-true : goal.returns-else-is-true
-returns-else-is-true t c s ss k h =
+pub returns-else-is_true : goal.returns-else-is_true
+returns-else-is_true t c s ss k h =
     let f = c.args.file.now in
     let p = stmt_here f c.args.at s c.in-Guard.is c.in-Some.ensures.exact h.here in
     let v = c.evaluate-in-Guard.ensures p.0 p.4 in
-    closed_found f c.args.at c.args.rest ss _ _ _ s k p.0 p.1 p.2 (ap is_true (sym v) ∙ sym c.is-true.ensures ∙ c.if-is-true.false) refl
+    closed_found f c.args.at c.args.rest ss _ _ _ s k p.0 p.1 p.2 (ap is_true (sym v) ∙ sym c.is_true.ensures ∙ c.if-is_true.false) refl
 
 pub returns-in-If : goal.returns-in-If
 returns-in-If t c s ss k h =
@@ -198,4 +198,4 @@ pub returns-in-Do : goal.returns-in-Do
 returns-in-Do t c s ss k h =
     let f = c.args.file.now in
     let p = stmt_here f c.args.at s c.in-Do.is c.in-Some.ensures.exact h.here in
-    loop_found f _ _ ss _ _ _ s k _ p.0 p.1 _ _ _ c.two-fronts-in-Do.ensures (c.evaluate-condition-in-Do.ensures p.0 p.4) p.2 c.with-again.ensures c.with-in-Do.ensures p.5 h
+    loop_found f _ _ ss _ _ _ s k _ p.0 p.1 _ _ _ c.two_fronts-in-Do.ensures (c.evaluate-condition-in-Do.ensures p.0 p.4) p.2 c.with-again.ensures c.with-in-Do.ensures p.5 h

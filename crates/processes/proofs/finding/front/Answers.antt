@@ -8,8 +8,8 @@ use Rattle.processes.proofs.finding.front.Goals as goal
 pub split-requires : goal.split-requires
 split-requires c = process_short c.args.file.now _ _ _ _ c.requires.2
 
-pub front-at-requires : goal.front-at-requires
-front-at-requires c =
+pub front_at-requires : goal.front_at-requires
+front_at-requires c =
     let p = process_ready c.args.file.now c.args.left _ _ c.in-Some.at c.in-Some.rest _ c.requires.2 c.in-Some.ensures in
     (p.0, p.1, p.3)
 
@@ -19,5 +19,5 @@ returns-in-Some c d ss h =
     let vs = values_of c.args.variables.now in
     let p = process_ready f c.args.left vs d c.in-Some.at c.in-Some.rest ss h c.in-Some.ensures in
     let from : 0 + c.args.number ≡ c.args.number = omega arith in
-    let found = subst (λ n. Answers f c.front-at.result (front_numbered n (fronts vs 0 p.0 p.1))) from (c.front-at.ensures p.0 p.1 0 p.3) in
-    subst (λ l. Answers f c.front-at.result (front_numbered c.args.number (process_fronts vs l))) (sym p.2) found
+    let found = subst (λ n. Answers f c.front_at.result (front_numbered n (fronts vs 0 p.0 p.1))) from (c.front_at.ensures p.0 p.1 0 p.3) in
+    subst (λ l. Answers f c.front_at.result (front_numbered c.args.number (process_fronts vs l))) (sym p.2) found

@@ -8,8 +8,8 @@ use Rattle.rota.proofs.choice.script_of.Goals as goal
 pub loop-word-init : goal.loop-word-init
 loop-word-init c = subst (Numbers []) (sym c.new-numbers.ensures.items) tt
 
-pub returns-in-default : goal.returns-in-default
-returns-in-default c = no_script _ c.args.words.now c.loop-word.word-index c.loop-word-test.true c.in-default.ensures
+pub returns-in_default : goal.returns-in_default
+returns-in_default c = no_script _ c.args.words.now c.loop-word.word-index c.loop-word-test.true c.in_default.ensures
 
 pub loop-word-preserved : goal.loop-word-preserved
 loop-word-preserved c =

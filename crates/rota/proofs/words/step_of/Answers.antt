@@ -1,23 +1,23 @@
 use Rattle.std.proofs.lemmas.Result.{err_from_is_err_and}
 use Rattle.rota.proofs.words.step_of.Goals as goal
 
-pub returns-in-err-kind : goal.returns-in-err-kind
-returns-in-err-kind c = let p = err_from_is_err_and c.from-residual.result c.from-residual.ensures.1 in rw p.1 (λ s h. c.in-err-kind.ensures s.kind h.kind)
+pub returns-in_err-kind : goal.returns-in_err-kind
+returns-in_err-kind c = let p = err_from_is_err_and c.from_residual.result c.from_residual.ensures.1 in rw p.1 (λ s h. c.in_err-kind.ensures s.kind h.kind)
 
-pub returns-in-err-process : goal.returns-in-err-process
-returns-in-err-process c = let p = err_from_is_err_and c.from-residual-in-err-process.result c.from-residual-in-err-process.ensures.1 in rw p.1 (λ s h. c.in-err-process.ensures s.process h.process)
+pub returns-in_err-process : goal.returns-in_err-process
+returns-in_err-process c = let p = err_from_is_err_and c.from_residual-in_err-process.result c.from_residual-in_err-process.ensures.1 in rw p.1 (λ s h. c.in_err-process.ensures s.process h.process)
 
-pub returns-in-err-front : goal.returns-in-err-front
-returns-in-err-front c = let p = err_from_is_err_and c.from-residual-in-err-front.result c.from-residual-in-err-front.ensures.1 in rw p.1 (λ s h. c.in-err-front.ensures s.front h.front)
+pub returns-in_err-front : goal.returns-in_err-front
+returns-in_err-front c = let p = err_from_is_err_and c.from_residual-in_err-front.result c.from_residual-in_err-front.ensures.1 in rw p.1 (λ s h. c.in_err-front.ensures s.front h.front)
 
-pub returns-in-err-partner : goal.returns-in-err-partner
-returns-in-err-partner c = let p = err_from_is_err_and c.from-residual-in-err-partner.result c.from-residual-in-err-partner.ensures.1 in rw p.1 (λ s h. c.in-err-partner.ensures s.partner h.partner)
+pub returns-in_err-partner : goal.returns-in_err-partner
+returns-in_err-partner c = let p = err_from_is_err_and c.from_residual-in_err-partner.result c.from_residual-in_err-partner.ensures.1 in rw p.1 (λ s h. c.in_err-partner.ensures s.partner h.partner)
 
-pub returns-in-err-partner-front : goal.returns-in-err-partner-front
-returns-in-err-partner-front c = let p = err_from_is_err_and c.from-residual-in-err-partner-front.result c.from-residual-in-err-partner-front.ensures.1 in rw p.1 (λ s h. c.in-err-partner-front.ensures s.partner_front h.partner_front)
+pub returns-in_err-partner-front : goal.returns-in_err-partner-front
+returns-in_err-partner-front c = let p = err_from_is_err_and c.from_residual-in_err-partner-front.result c.from_residual-in_err-partner-front.ensures.1 in rw p.1 (λ s h. c.in_err-partner-front.ensures s.partner_front h.partner_front)
 
-pub returns-in-err-channel : goal.returns-in-err-channel
-returns-in-err-channel c = let p = err_from_is_err_and c.from-residual-in-err-channel.result c.from-residual-in-err-channel.ensures.1 in rw p.1 (λ s h. c.in-err-channel.ensures s.channel h.channel)
+pub returns-in_err-channel : goal.returns-in_err-channel
+returns-in_err-channel c = let p = err_from_is_err_and c.from_residual-in_err-channel.result c.from_residual-in_err-channel.ensures.1 in rw p.1 (λ s h. c.in_err-channel.ensures s.channel h.channel)
 
-pub returns-in-err-message : goal.returns-in-err-message
-returns-in-err-message c = let p = err_from_is_err_and c.from-residual-in-err-message.result c.from-residual-in-err-message.ensures.1 in rw p.1 (λ s h. c.in-err-message.ensures s.message h.message)
+pub returns-in_err-message : goal.returns-in_err-message
+returns-in_err-message c = let p = err_from_is_err_and c.from_residual-in_err-message.result c.from_residual-in_err-message.ensures.1 in rw p.1 (λ s h. c.in_err-message.ensures s.message h.message)

@@ -11,12 +11,12 @@ out-of-memory : (ws : List Word) (r : Result Sheet Stop) → IsErrAnd r (λ y. y
 out-of-memory ws (Ok s) h = absurd h
 out-of-memory ws (Err y) h = subst (λ x. Answered ws (Err x)) (sym h) tt
 
-pub returns-in-err-words : goal.returns-in-err-words
-returns-in-err-words c = record { answer = out-of-memory _ _ c.from-residual.ensures.1; law = reads_expressions }
+pub returns-in_err-words : goal.returns-in_err-words
+returns-in_err-words c = record { answer = out-of-memory _ _ c.from_residual.ensures.1; law = reads_expressions }
 
 pub returns : goal.returns
 returns c =
     record {
-      answer = subst (λ ws. Answered ws c.worked-out.result) (c.deref.ensures.value ∙ c.in-ok-words.ensures) c.worked-out.ensures;
+      answer = subst (λ ws. Answered ws c.worked-out.result) (c.deref.ensures.value ∙ c.in_ok-words.ensures) c.worked-out.ensures;
       law = reads_expressions;
     }

@@ -8,7 +8,7 @@ pub loop-text-preserved : goal.loop-text-preserved
 loop-text-preserved c =
     let texts = c.args.texts.now in
     let i = c.loop-text.text-index in
-    c.in-ok-push.ensures.items
+    c.in_ok-push.ensures.items
     ∙ ap (λ l. l ++ c.read-word.result ∷ []) c.loop-text.invariant
     ∙ ap (λ w. words_of (take i texts) ++ w ∷ []) c.read-word.ensures
     ∙ sym (map_more (λ t. word_of t.now) texts i _ c.loop-text-test.true)

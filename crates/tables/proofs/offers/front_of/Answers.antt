@@ -5,12 +5,12 @@ use Rattle.tables.proofs.offers.front_of.Goals as goal
 
 pub front-requires : goal.front-requires
 front-requires c =
-    let small = bytes_from c.args.file.now (λ i. omega (arith, (c.type-inv.file i).fits)) in
+    let small = bytes_from c.args.file.now (λ i. omega (arith, (c.type_inv.file i).fits)) in
     let g = good c.args.file.now c.args.classes c.args.entry.now c.args.rows.now small c.requires in
     (_, _, _, g.of_its_class.stands)
 
 pub returns : goal.returns
 returns c =
-    let small = bytes_from c.args.file.now (λ i. omega (arith, (c.type-inv.file i).fits)) in
+    let small = bytes_from c.args.file.now (λ i. omega (arith, (c.type_inv.file i).fits)) in
     let g = good c.args.file.now c.args.classes c.args.entry.now c.args.rows.now small c.requires in
     record { front = c.front.ensures _ _ _ g.of_its_class.stands; bytes = small }

@@ -13,7 +13,7 @@ returns c =
     let f = c.args.file.now in
     let vs = values_of c.args.rows.now in
     let one = view f c.args.entry.now c.args.rows.now in
-    let a = answered f c.in-ok-front.front (offered_front one c.args.number) c.in-ok-front.ensures.front in
+    let a = answered f c.in_ok-front.front (offered_front one c.args.number) c.in_ok-front.ensures.front in
     let n = numbered_so c.args.number (process_fronts vs (left_in f c.args.entry.now.left)) a.0 a.1 in
     ap (λ o. Some o) (c.seen-action.ensures ∙ (λ i. seen c.args.process (sym n i) vs (a.2.does i)))
     ∙ sym (ap (seen_front c.args.process one) a.1)

@@ -22,7 +22,7 @@ loop-p-preserved c =
     let one = process_in f c.args.table.now p in
     let fs = process_fronts one.variables one.left in
     let offer : Front → steps.Offer = λ x. record { process = p; variables = one.variables; front = x } in
-    let small = bytes_from f (λ i. omega (arith, (c.type-inv.file i).fits)) in
+    let small = bytes_from f (λ i. omega (arith, (c.type_inv.file i).fits)) in
     let g = good f c.args.classes _ _ small (c.requires.sound.each p c.loop-p-test.true) in
     let few = ascend_short 0 8 fs (eight _ _ one.variables one.left g.of_its_class.stands.kept) in
     let e = get_or c.args.table.now.entries p no_entry in
@@ -41,7 +41,7 @@ returns c = record {
       let one : ℕ → _ = process_in f c.args.table.now in
       subst (Grown c.args.out.now c.loop-p.out) (numbered_offers one 0 c.args.count)
       (count-all (λ q. seen_offers q (one q)) c.args.count _ c.loop-p.p _ c.loop-p.invariant.0 c.loop-p-test.false);
-  held = let f = c.args.file.now in table_held f c.args.classes (bytes_from f (λ i. omega (arith, (c.type-inv.file i).fits))) c.args.table.now c.args.count c.requires.sound;
-  few = let f = c.args.file.now in table_few f c.args.classes (bytes_from f (λ i. omega (arith, (c.type-inv.file i).fits))) c.args.table.now c.args.count c.requires.sound;
-  bytes = bytes_from c.args.file.now (λ i. omega (arith, (c.type-inv.file i).fits));
+  held = let f = c.args.file.now in table_held f c.args.classes (bytes_from f (λ i. omega (arith, (c.type_inv.file i).fits))) c.args.table.now c.args.count c.requires.sound;
+  few = let f = c.args.file.now in table_few f c.args.classes (bytes_from f (λ i. omega (arith, (c.type_inv.file i).fits))) c.args.table.now c.args.count c.requires.sound;
+  bytes = bytes_from c.args.file.now (λ i. omega (arith, (c.type_inv.file i).fits));
 }

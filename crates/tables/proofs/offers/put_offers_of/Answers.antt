@@ -42,7 +42,7 @@ loop-number-preserved c =
 pub returns : goal.returns
 returns c =
     let f = c.args.file.now in
-    let small = bytes_from f (λ i. omega (arith, (c.type-inv.file i).fits)) in
+    let small = bytes_from f (λ i. omega (arith, (c.type_inv.file i).fits)) in
     let g = good f c.args.classes c.args.entry.now c.args.rows.now small c.requires.sound in
     let one = view f c.args.entry.now c.args.rows.now in
     let p = c.args.process in

@@ -10,7 +10,7 @@ start-rows-requires c =
     let f = c.args.file.now in
     let d = c.requires.0 in
     let s = c.scope-of.ensures d c.requires.1 in
-    let kept = class_kept f _ d (bytes_from f (λ i. omega (arith, (c.type-inv.file i).fits))) c.requires.1 in
+    let kept = class_kept f _ d (bytes_from f (λ i. omega (arith, (c.type_inv.file i).fits))) c.requires.1 in
     (omega (arith, variables_many _ _ d s, kept.variables_few), s.within.variables_within)
 
 pub with-requires : goal.with-requires
@@ -19,5 +19,5 @@ with-requires c = omega (arith, none_stored c.new.result.count c.new.result.plac
 pub returns : goal.returns
 returns c d h =
     let f = c.args.file.now in
-    let small = bytes_from f (λ i. omega (arith, (c.type-inv.file i).fits)) in
+    let small = bytes_from f (λ i. omega (arith, (c.type_inv.file i).fits)) in
     fresh_made f c.scope-of.result d c.start-rows.result c.new.result c.with.result c.statement-of.result (file_short f _ d small h) (class_kept f _ d small h) (c.scope-of.ensures d h) c.start-rows.ensures c.new.ensures c.with.ensures (c.statement-of.ensures d h)

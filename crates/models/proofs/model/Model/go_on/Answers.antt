@@ -31,5 +31,5 @@ returns-in-Some c =
     let e = goes_on m c.args.p c.args.number (values_of c.args.got.now) c.go-on.new.self c.in-Some.front c.if-p-self.false (c.in-Some.ensures.bytes c.if-p-self.false) c.in-Some.ensures.front c.requires c.go-on.ensures in
     (λ i. record { classes = (model_of m).classes; behaviour = (model_of m).behaviour; processes = e i })
 
-pub returns-in-default : goal.returns-in-default
-returns-in-default c = none_stays c.args.self.now c.args.p c.args.number (values_of c.args.got.now) (unanswered (bytes_of c.args.self.now) _ c.in-default.ensures.front)
+pub returns-in_default : goal.returns-in_default
+returns-in_default c = none_stays c.args.self.now c.args.p c.args.number (values_of c.args.got.now) (unanswered (bytes_of c.args.self.now) _ c.in_default.ensures.front)

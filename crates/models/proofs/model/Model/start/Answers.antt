@@ -14,10 +14,10 @@ use Rattle.models.proofs.model.Model.start.Goals as goal
 pub invariant-of-result : goal.invariant-of-result
 invariant-of-result c =
     let f = c.args.file.now in
-    let bs = bytes_from f (λ i. omega (arith, (c.type-inv.file i).fits)) in
-    let u = c.in-ok-summary.summary in
+    let bs = bytes_from f (λ i. omega (arith, (c.type_inv.file i).fits)) in
+    let u = c.in_ok-summary.summary in
     let s : Summary = (u.classes, u.behaviour, u.processes) in
-    let h : check_file f ≡ Ok s = sym c.in-ok-summary.ensures.exact in
+    let h : check_file f ≡ Ok s = sym c.in_ok-summary.ensures.exact in
     let same = c.copied.ensures in
     let short : length f ≤ 4096 = subst (λ x. length x ≤ 4096) (reads f s bs h).bytes (reads f s bs h).conditions.short in
     let table = c.fresh-table-table.result in
@@ -38,10 +38,10 @@ invariant-of-result c =
 pub returns : goal.returns
 returns c =
     let f = c.args.file.now in
-    let bs = bytes_from f (λ i. omega (arith, (c.type-inv.file i).fits)) in
-    let u = c.in-ok-summary.summary in
+    let bs = bytes_from f (λ i. omega (arith, (c.type_inv.file i).fits)) in
+    let u = c.in_ok-summary.summary in
     let s : Summary = (u.classes, u.behaviour, u.processes) in
-    let h : check_file f ≡ Ok s = sym c.in-ok-summary.ensures.exact in
+    let h : check_file f ≡ Ok s = sym c.in_ok-summary.ensures.exact in
     let same = c.copied.ensures in
     let table = c.fresh-table-table.result in
     let all = ap (λ g. processes_in g table u.processes) same ∙ starts f s bs h table (c.fresh-table-table.ensures s h refl refl) in

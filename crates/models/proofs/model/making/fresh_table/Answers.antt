@@ -13,7 +13,7 @@ use Rattle.models.proofs.model.making.fresh_table.Goals as goal
 pub process-class-class-requires : goal.process-class-class-requires
 process-class-class-requires c =
     let f = c.args.file.now in
-    let bs = bytes_from f (λ i. omega (arith, (c.type-inv.file i).fits)) in
+    let bs = bytes_from f (λ i. omega (arith, (c.type_inv.file i).fits)) in
     let s = c.requires.0 in
     let h = c.requires.1 in
     let b = (tree_in f s).behaviour in (
@@ -26,7 +26,7 @@ process-class-class-requires c =
 pub of-fresh-requires : goal.of-fresh-requires
 of-fresh-requires c =
     let f = c.args.file.now in
-    let bs = bytes_from f (λ i. omega (arith, (c.type-inv.file i).fits)) in
+    let bs = bytes_from f (λ i. omega (arith, (c.type_inv.file i).fits)) in
     let s = c.requires.0 in
     let h = c.requires.1 in
     let t = tree_in f s in
@@ -41,13 +41,13 @@ of-fresh-requires c =
 pub set-requires : goal.set-requires
 set-requires c =
     let f = c.args.file.now in
-    let bs = bytes_from f (λ i. omega (arith, (c.type-inv.file i).fits)) in
+    let bs = bytes_from f (λ i. omega (arith, (c.type_inv.file i).fits)) in
     omega (arith, few f c.requires.0 bs c.requires.1, c.requires.3, c.loop-p-test.true)
 
 pub loop-p-preserved : goal.loop-p-preserved
 loop-p-preserved c s h a n =
     let f = c.args.file.now in
-    let bs = bytes_from f (λ i. omega (arith, (c.type-inv.file i).fits)) in
+    let bs = bytes_from f (λ i. omega (arith, (c.type_inv.file i).fits)) in
     let t = tree_in f s in
     let p = c.loop-p.p in
     let k = c.process-class-class.result in
