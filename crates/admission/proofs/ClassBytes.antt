@@ -1,5 +1,6 @@
 -- Classes and their bytes, given the same of statements.
 use Rattle.std.proofs.Common.{◌≡◌, ℕ, ◌+◌, ◌-◌, ◌*◌, ◌/◌, ◌%◌, ◌<◌, ◌≤◌, List, [], ◌∷◌, ◌++◌, length, take, drop, sym, ap, ◌∙◌, subst, append_assoc, append-nil, arith}
+use Rattle.std.specs.List.{AllByRecursion}
 use Rattle.std.proofs.lemmas.List.{length-take-le, length-drop, length-append, take-append-drop, drop-append-le, drop_all, take_at, drop-take}
 use Rattle.values.specs.declared.kind.Kind.{Kind}
 use Rattle.values.specs.Values.{Val}
@@ -9,7 +10,7 @@ use Rattle.commands.specs.Stands.{StmtAt}
 use Rattle.commands.specs.Trees.{Stmt, Declaration, Class, stmt_size}
 use Rattle.files.specs.Heads.{byte, class_declarations}
 use Rattle.commands.specs.ByteLists.{Bytes}
-use Rattle.admission.specs.Conditions.{All, StmtKept, ClassKept}
+use Rattle.admission.specs.Conditions.{StmtKept, ClassKept}
 use Rattle.admission.proofs.ClassHeads.{HeadValid, head_end, byte_below}
 use Rattle.admission.proofs.ClassParts.{class_values, BodyAt, ClassAt, ClassesAt, head_long, take_bytes}
 use Rattle.admission.proofs.HeadBytes.{head_bytes, head_read, head_written, next_byte, drop_two}
@@ -139,7 +140,7 @@ module _ (written : StmtWritten) where
         left,
       )
 
-  pub classes_written : (f : List ℕ) (at : ℕ) (cs : List Class) (rest : List ℕ) → All ClassKept cs → drop at f ≡ classes_bytes at cs ++ rest → ClassesAt f at cs × (drop (at + classes_size cs) f ≡ rest)
+  pub classes_written : (f : List ℕ) (at : ℕ) (cs : List Class) (rest : List ℕ) → AllByRecursion ClassKept cs → drop at f ≡ classes_bytes at cs ++ rest → ClassesAt f at cs × (drop (at + classes_size cs) f ≡ rest)
   classes_written f at [] rest k e = let n : at ≡ at + 0 = omega arith in (tt, subst (λ i. drop i f ≡ rest) n e)
   classes_written f at (c ∷ cs) rest k e =
       let a = class_written f at c (classes_bytes (at + class_size c) cs ++ rest) k.0 (e ∙ append_assoc (class_bytes at c) (classes_bytes (at + class_size c) cs) rest) in

@@ -1,5 +1,6 @@
 -- The check of a class's head accepts exactly the heads whose fields are valid.
 use Rattle.std.proofs.Common.{◌≡◌, ℕ, zero, suc, ◌+◌, ◌*◌, ◌<◌, ◌≤◌, Bool, true, false, cond, not, eqb, ltb, leb, List, [], ◌∷◌, map, length, ℤ, Some, Ok, refl, ap, subst, arith, ltb-true, lt-ltb, le-leb, leb-true}
+use Rattle.std.specs.List.{AllByRecursion}
 use Rattle.values.specs.declared.kind.Kind.TheVariants.{Integer, Boolean}
 use Rattle.values.specs.declared.row.Row.{Row}
 use Rattle.values.specs.Laws.{Ranged}
@@ -10,7 +11,7 @@ use Rattle.files.specs.declared.fault.Layer.TheVariants.{ClassHead as ClassHeadL
 use Rattle.files.specs.Checked.{Checked, ask, ◌>>◌}
 use Rattle.files.specs.Heads.{byte, integer_at, row_at, values_at, kinds_at, value_kinds, declarations_at, field, is_kind, check_variable, check_variables, kind_fits, check_kind, check_exchange, check_declaration, check_declarations, check_head, declarations_place}
 use Rattle.commands.specs.ByteLists.{Bytes}
-use Rattle.admission.specs.Conditions.{All, DeclarationKept}
+use Rattle.admission.specs.Conditions.{DeclarationKept}
 use Rattle.admission.proofs.Oks.{bind_ok, seq_ok, ask_ok, ask_last, ok_is}
 use Rattle.admission.proofs.Ranges.{integer_ranged, long_below}
 
@@ -233,11 +234,11 @@ integer_kept f at h = integer_ranged _ (long_below (byte f at) (byte f (at + 1))
 row_ranged : (r : Row) → in_range r.number ≡ true → Ranged (value_of_row r)
 row_ranged r h = chosen_ranged (valid r) (eqb r.known 0) (eqb r.kind 2) (not (is_zero r.number)) r.number h
 
-pub values_ranged : (n : ℕ) (f : List ℕ) (at : ℕ) → Bytes f → All Ranged (values_at n f at)
+pub values_ranged : (n : ℕ) (f : List ℕ) (at : ℕ) → Bytes f → AllByRecursion Ranged (values_at n f at)
 values_ranged zero f at h = tt
 values_ranged (suc n) f at h = (row_ranged (row_at f at) (integer_kept f (at + 2) h), values_ranged n f (at + 6) h)
 
-pub declarations_kept : (n : ℕ) (f : List ℕ) (at : ℕ) → DeclarationsValid n f at → All DeclarationKept (declarations_at n f at)
+pub declarations_kept : (n : ℕ) (f : List ℕ) (at : ℕ) → DeclarationsValid n f at → AllByRecursion DeclarationKept (declarations_at n f at)
 declarations_kept zero f at h = tt
 declarations_kept (suc n) f at h =
     let v = h.0 in

@@ -1,5 +1,6 @@
 -- The check of a class accepts exactly the classes that keep the conditions.
 use Rattle.std.proofs.Common.{◌≡◌, ℕ, zero, suc, ◌+◌, ◌≤◌, leb, List, [], ◌∷◌, map, length, take, Ok, sym, refl, ap, ◌∙◌, subst, arith, eq-eqb, eqb-true, le-leb, leb-true}
+use Rattle.std.specs.List.{AllByRecursion}
 use Rattle.std.proofs.lemmas.List.{length-take-le}
 use Rattle.values.specs.Values.{Val, kind_of}
 use Rattle.commands.specs.Bytes.{head_size, class_size, classes_size}
@@ -11,7 +12,7 @@ use Rattle.files.specs.Files.{levels, check_body, check_class, check_classes}
 use Rattle.files.specs.Heads.{byte, word_at, values_at, check_head, class_kinds, declarations_place, class_declarations}
 use Rattle.files.specs.Statements.{check_statement}
 use Rattle.commands.specs.ByteLists.{Bytes}
-use Rattle.admission.specs.Conditions.{All, StmtKept, most_fronts, ClassKept}
+use Rattle.admission.specs.Conditions.{StmtKept, most_fronts, ClassKept}
 use Rattle.admission.proofs.Oks.{bind_ok, seq_ok, ask_ok, ask_last, ok_is}
 use Rattle.admission.proofs.ClassHeads.{HeadValid, head_end, head_sound, head_complete, values_count, declarations_count, values_kinds, values_ranged, declarations_kept}
 use Rattle.admission.proofs.Stmts.{stmt_sound, stmt_complete}
@@ -112,7 +113,7 @@ class_complete f at c h k =
 
 pub record ClassesFound (n : ℕ) (f : List ℕ) (at e : ℕ) (cs : List Class) : Type 0 where
   pub stand : ClassesAt f at cs
-  pub kept : All ClassKept cs
+  pub kept : AllByRecursion ClassKept cs
   pub count : length cs ≡ n
   pub ends : e ≡ at + classes_size cs
 
@@ -124,7 +125,7 @@ classes_sound (suc n) f bs at e h =
     let r = classes_sound n f bs p.0 e p.2 in
     (a.0 ∷ r.0, record { stand = (a.1, subst (λ i. ClassesAt f i r.0) a.3 r.1.stand); kept = (a.2, r.1.kept); count = ap suc r.1.count; ends = omega (arith, a.3, r.1.ends) })
 
-pub classes_complete : (cs : List Class) (f : List ℕ) (at : ℕ) → ClassesAt f at cs → All ClassKept cs → check_classes (length cs) f at ≡ Ok (at + classes_size cs)
+pub classes_complete : (cs : List Class) (f : List ℕ) (at : ℕ) → ClassesAt f at cs → AllByRecursion ClassKept cs → check_classes (length cs) f at ≡ Ok (at + classes_size cs)
 classes_complete [] f at s k = let e : at ≡ at + 0 = omega arith in ap (λ m. Ok m) e
 classes_complete (c ∷ cs) f at s k =
     let e : at + class_size c + classes_size cs ≡ at + (class_size c + classes_size cs) = omega arith in

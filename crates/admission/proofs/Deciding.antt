@@ -1,12 +1,11 @@
 -- The check's answer decides whether a file is admitted.
-use Rattle.std.proofs.Common.{◌≡◌, ℕ, suc, ◌<◌, true, false, List, [], ◌∷◌, get_or, is_ok, Ok, Err, Decides, Result, sym, refl, ap, ◌∙◌, arith}
+use Rattle.std.proofs.Common.{◌≡◌, ℕ, suc, ◌<◌, List, [], ◌∷◌, get_or, is_ok, Ok, Err, Decides, Result, sym, refl, ap, arith}
 use Rattle.commands.specs.ByteLists.{Bytes}
-use Rattle.commands.specs.Bytes.{file_bytes}
 use Rattle.files.specs.declared.fault.LoadFault.{LoadFault}
 use Rattle.files.specs.declared.file.Summary.{Summary}
 use Rattle.files.specs.Files.{check_file}
 use Rattle.files.specs.Summaries.{summed}
-use Rattle.admission.specs.Admission.{Admitted, summary}
+use Rattle.admission.specs.Admission.{Admitted}
 use Rattle.admission.proofs.Supplied.{admits}
 
 pub bytes_from : (bs : List ℕ) → ((i : ℕ) → get_or bs i 0 < 256) → Bytes bs

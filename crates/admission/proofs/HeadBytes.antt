@@ -1,5 +1,6 @@
 -- The head of a class and its bytes.
 use Rattle.std.proofs.Common.{◌≡◌, ℕ, zero, suc, ◌+◌, ◌-◌, ◌*◌, ◌/◌, ◌%◌, ◌<◌, ◌≤◌, Bool, true, false, cond, eqb, ltb, leb, List, [], ◌∷◌, ◌++◌, map, length, drop, replicate, ℤ, pos, negsuc, Some, None, sym, refl, ap, ◌∙◌, subst, append_assoc, arith, w32, SFits, to_z, of_z, ltb-false, ltb-true, le-ltb, lt-ltb, eq-eqb, ne_eqb, eqb-true}
+use Rattle.std.specs.List.{AllByRecursion}
 use borrow.Author.Tests.{lt-leb}
 use Rattle.std.proofs.lemmas.List.{drop_more}
 use Rattle.std.proofs.lemmas.Int.{of_z-to_z, to_z-of_z, ints}
@@ -15,7 +16,7 @@ use Rattle.commands.specs.Numbers.{four_bytes}
 use Rattle.commands.specs.Trees.{Declaration}
 use Rattle.files.specs.Heads.{byte, integer_at, row_at, values_at, kind_at, value_kinds, declaration_at, declarations_at, is_kind, kind_fits, declarations_place, class_declarations}
 use Rattle.commands.specs.ByteLists.{Bytes}
-use Rattle.admission.specs.Conditions.{All, DeclarationKept}
+use Rattle.admission.specs.Conditions.{DeclarationKept}
 use Rattle.admission.proofs.ClassHeads.{VariableValid, VariablesValid, DeclarationValid, DeclarationsValid, HeadValid, head_end, byte_below, values_count, declarations_count, value_kinds_count}
 use Rattle.admission.proofs.ClassParts.{class_values}
 use Rattle.admission.proofs.Exchanges.{same_fields}
@@ -298,7 +299,7 @@ variable_written f at v rest h e =
       subst (λ i. drop i f ≡ rest) m s.1,
     )
 
-pub variables_written : (vs : List Val) (f : List ℕ) (at : ℕ) (rest : List ℕ) → All Ranged vs → drop at f ≡ variables_bytes vs ++ rest → VariablesValid (length vs) f at × (values_at (length vs) f at ≡ vs) × (drop (at + 6 * length vs) f ≡ rest)
+pub variables_written : (vs : List Val) (f : List ℕ) (at : ℕ) (rest : List ℕ) → AllByRecursion Ranged vs → drop at f ≡ variables_bytes vs ++ rest → VariablesValid (length vs) f at × (values_at (length vs) f at ≡ vs) × (drop (at + 6 * length vs) f ≡ rest)
 variables_written [] f at rest h e = let n : at ≡ at + 0 = omega arith in (tt, refl, subst (λ i. drop i f ≡ rest) n e)
 variables_written (v ∷ vs) f at rest h e =
     let a = variable_written f at v (variables_bytes vs ++ rest) h.0 (e ∙ append_assoc (row_bytes (row_of v)) (variables_bytes vs) rest) in
@@ -379,7 +380,7 @@ declaration_written f at d rest h e =
       subst (λ i. drop i f ≡ rest) end ks.left,
     )
 
-pub declarations_written : (ds : List Declaration) (f : List ℕ) (at : ℕ) (rest : List ℕ) → at ≤ length f → All DeclarationKept ds → drop at f ≡ declarations_bytes ds ++ rest → DeclarationsValid (length ds) f at × (declarations_at (length ds) f at ≡ ds) × (drop (at + 8 * length ds) f ≡ rest) × (at + 8 * length ds ≤ length f)
+pub declarations_written : (ds : List Declaration) (f : List ℕ) (at : ℕ) (rest : List ℕ) → at ≤ length f → AllByRecursion DeclarationKept ds → drop at f ≡ declarations_bytes ds ++ rest → DeclarationsValid (length ds) f at × (declarations_at (length ds) f at ≡ ds) × (drop (at + 8 * length ds) f ≡ rest) × (at + 8 * length ds ≤ length f)
 declarations_written [] f at rest w h e = let n : at ≡ at + 0 = omega arith in (tt, refl, subst (λ i. drop i f ≡ rest) n e, omega arith)
 declarations_written (d ∷ ds) f at rest w h e =
     let a = declaration_written f at d (declarations_bytes ds ++ rest) h.0 (e ∙ append_assoc (declaration_bytes d) (declarations_bytes ds) rest) in
@@ -396,7 +397,7 @@ pub record HeadWritten (f : List ℕ) (at : ℕ) (vs : List Val) (ds : List Decl
   pub left : drop (head_end f at) f ≡ rest
   pub ends : head_end f at ≡ at + 2 + 6 * length vs + 8 * length ds
 
-pub head_written : (f : List ℕ) (at : ℕ) (vs : List Val) (ds : List Declaration) (rest : List ℕ) → length vs ≤ 8 → All Ranged vs → length ds ≤ 16 → All DeclarationKept ds → drop at f ≡ head_bytes vs ds rest → HeadWritten f at vs ds rest
+pub head_written : (f : List ℕ) (at : ℕ) (vs : List Val) (ds : List Declaration) (rest : List ℕ) → length vs ≤ 8 → AllByRecursion Ranged vs → length ds ≤ 16 → AllByRecursion DeclarationKept ds → drop at f ≡ head_bytes vs ds rest → HeadWritten f at vs ds rest
 head_written f at vs ds rest vn vk dn dk e =
     let a = next_byte f at (length vs) (variables_bytes vs ++ (length ds ∷ (declarations_bytes ds ++ rest))) e in
     let b = variables_written vs f (at + 1) (length ds ∷ (declarations_bytes ds ++ rest)) vk a.1 in

@@ -1,20 +1,20 @@
 -- The tree of an admitted file is what is read from it.
-use Rattle.std.proofs.Common.{◌≡◌, ℕ, zero, suc, ◌+◌, ◌≤◌, List, [], ◌∷◌, length, take, Ok, Err, Result, sym, refl, ap, ◌∙◌, subst, arith}
+use Rattle.std.proofs.Common.{◌≡◌, ℕ, ◌+◌, List, [], ◌∷◌, length, take, Ok, Err, Result, sym, refl, ap, ◌∙◌, subst, arith}
+use Rattle.std.specs.List.{AllByRecursion}
 use Rattle.commands.specs.ByteLists.{Bytes}
 use Rattle.commands.specs.Bytes.{file_bytes, head_size, class_size, classes_size}
-use Rattle.commands.specs.Stands.{StmtAt, BehaviourAt}
 use Rattle.commands.specs.Trees.{Class, File}
 use Rattle.commands.proofs.Cuts.{stmt_uncut}
 use Rattle.files.specs.declared.fault.LoadFault.{LoadFault}
 use Rattle.files.specs.declared.file.Summary.{Summary}
 use Rattle.files.specs.Checked.{◌>>=◌}
 use Rattle.files.specs.Files.{check_file, levels}
-use Rattle.files.specs.Heads.{byte, word_at, statement_place}
+use Rattle.files.specs.Heads.{word_at, statement_place}
 use Rattle.files.specs.Summaries.{summed}
-use Rattle.parts.specs.Parts.{stmt_in, behaviour_in}
+use Rattle.parts.specs.Parts.{stmt_in}
 use Rattle.parts.proofs.Reading.{stmt_reads, behaviour_reads}
-use Rattle.admission.specs.Admission.{Admitted, summary}
-use Rattle.admission.specs.Conditions.{Conditions, ClassKept, All}
+use Rattle.admission.specs.Admission.{summary}
+use Rattle.admission.specs.Conditions.{Conditions, ClassKept}
 use Rattle.admission.specs.Read.{body_in, class_in, classes_in, tree_in, read, StatementsStand, ReadsTrees, ReadAs}
 use Rattle.admission.proofs.ClassParts.{BodyAt, ClassAt, ClassesAt, head_long}
 use Rattle.admission.proofs.FileParts.{FileAt}
@@ -31,7 +31,7 @@ class_read f at c h k =
     let stop : at + 2 + word_at f at ≡ at + class_size c = omega (arith, h.long) in
     ap (λ n. body_in (take n f) (at + 2)) stop ∙ body_read (take (at + class_size c) f) (at + 2) c h.body k
 
-classes_read : (cs : List Class) (f : List ℕ) (at : ℕ) → ClassesAt f at cs → All ClassKept cs → classes_in (length cs) f at ≡ cs
+classes_read : (cs : List Class) (f : List ℕ) (at : ℕ) → ClassesAt f at cs → AllByRecursion ClassKept cs → classes_in (length cs) f at ≡ cs
 classes_read [] f at h k = refl
 classes_read (c ∷ cs) f at h k =
     let stop : at + 2 + word_at f at ≡ at + class_size c = omega (arith, h.0.long) in

@@ -1,13 +1,12 @@
 -- The conditions that the tree of a model file keeps.
-use Rattle.std.specs.Prelude.{◌≡◌, ℕ, ◌+◌, ◌^◌, ◌<◌, ◌≤◌, Bool, true, false, cond, ◌&&◌, List, [], ◌∷◌, map, length, ℤ, Some, None, Option}
-use Rattle.std.specs.List.{slice_get}
+use Rattle.std.specs.Prelude.{◌≡◌, ℕ, ◌+◌, ◌^◌, ◌<◌, ◌≤◌, true, false, List, [], ◌∷◌, map, length, Some}
+use Rattle.std.specs.List.{slice_get, AllByRecursion}
 use Rattle.values.specs.declared.kind.Kind.{Kind}
 use Rattle.values.specs.declared.kind.Kind.TheVariants.{Boolean}
-use Rattle.values.specs.declared.op.Op.{Op}
-use Rattle.values.specs.Kinds.{awaited, same_kind}
+use Rattle.values.specs.Kinds.{awaited}
 use Rattle.values.specs.Laws.{Ranged}
 use Rattle.values.specs.Ops.{part_kind, gives}
-use Rattle.values.specs.Values.{Val, in_range, kind_of}
+use Rattle.values.specs.Values.{in_range, kind_of}
 use Rattle.commands.specs.declared.expression.Leaf.{Leaf}
 use Rattle.commands.specs.declared.expression.Leaf.TheVariants.{Int, Bool as BoolL, Iunk, Var}
 use Rattle.commands.specs.Bytes.{file_bytes}
@@ -92,25 +91,21 @@ processes (parallel a b) = processes a + processes b
 processes (hide s a) = processes a
 processes (rename x y a) = processes a
 
-abbrev pub All : {A : Type 0} → (A → Type 0) → List A → Type 0
-All P [] = Unit {0}
-All P (x ∷ xs) = P x × All P xs
-
 pub record DeclarationKept (d : Declaration) : Type 0 where
   pub exchange_kept : ExchangeKept d.channel d.message (length d.kinds)
 
 pub record ClassKept (c : Class) : Type 0 where
   pub variables_few : length c.variables ≤ 8
-  pub values_kept : All Ranged c.variables
+  pub values_kept : AllByRecursion Ranged c.variables
   pub declarations_few : length c.declarations ≤ 16
-  pub declarations_kept : All DeclarationKept c.declarations
+  pub declarations_kept : AllByRecursion DeclarationKept c.declarations
   pub statement_kept : StmtKept (map kind_of c.variables) c.declarations c.statement
   pub statement_deep : stmt_depth c.statement ≤ 32
 
 pub record Conditions (f : File) : Type 0 where
   pub some_class : 1 ≤ length f.classes
   pub classes_few : length f.classes ≤ 8
-  pub classes_kept : All ClassKept f.classes
+  pub classes_kept : AllByRecursion ClassKept f.classes
   pub behaviour_kept : BehaviourKept (length f.classes) f.behaviour
   pub behaviour_deep : behaviour_depth f.behaviour ≤ 32
   pub processes_few : processes f.behaviour ≤ 8

@@ -1,5 +1,5 @@
 -- The tree that the bytes of a file are: its first fault, or the tree.
-use Rattle.std.specs.Prelude.{◌≡◌, ℕ, zero, suc, ◌+◌, ◌*◌, List, [], ◌∷◌, take, Ok, Err, Result}
+use Rattle.std.specs.Prelude.{◌≡◌, ℕ, zero, suc, ◌+◌, List, [], ◌∷◌, take, Ok, Err, Result}
 use Rattle.commands.specs.Bytes.{file_bytes, head_size, class_size, classes_size}
 use Rattle.commands.specs.ByteLists.{Bytes}
 use Rattle.commands.specs.Stands.{StmtAt, BehaviourAt}

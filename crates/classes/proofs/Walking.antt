@@ -1,7 +1,7 @@
 -- The walk to a class of a number.
 use Rattle.std.proofs.Common.{◌≡◌, ℕ, zero, suc, ◌+◌, ◌-◌, ◌<◌, ◌≤◌, List, [], ◌∷◌, map, length, take, Some, Ok, sym, refl, ap, ◌∙◌, subst, arith}
 use Rattle.std.proofs.lemmas.List.{length-take-le}
-use Rattle.std.specs.List.{slice_get}
+use Rattle.std.specs.List.{slice_get, AllByRecursion}
 use Rattle.values.specs.Rows.{row_of, value_of_row}
 use Rattle.commands.specs.ByteLists.{Bytes}
 use Rattle.commands.specs.Bytes.{head_size, class_size}
@@ -9,7 +9,7 @@ use Rattle.commands.specs.Stands.{StmtAt}
 use Rattle.commands.specs.Trees.{Class, File}
 use Rattle.commands.proofs.Cuts.{stmt_uncut}
 use Rattle.files.specs.Heads.{byte, word_at, class_declarations, declarations_at, declarations_place, statement_place}
-use Rattle.admission.specs.Conditions.{All, ClassKept, Conditions}
+use Rattle.admission.specs.Conditions.{ClassKept, Conditions}
 use Rattle.admission.specs.Read.{read}
 use Rattle.admission.proofs.ClassParts.{ClassAt, ClassesAt, head_long}
 use Rattle.admission.proofs.FileParts.{FileAt}
@@ -77,7 +77,7 @@ ahead_done f at k i c past h =
 pub file_short : (f : List ℕ) (k : ℕ) (c : Class) → Bytes f → ClassOf f k c → length f ≤ 4096
 file_short f k c small h = (tree_stands f h.0 small h.1).0.header.most
 
-one_kept : (n : ℕ) (c : Class) (cs : List Class) → All ClassKept cs → slice_get cs n ≡ Some c → ClassKept c
+one_kept : (n : ℕ) (c : Class) (cs : List Class) → AllByRecursion ClassKept cs → slice_get cs n ≡ Some c → ClassKept c
 one_kept n c [] k e = absurd (none_some n c e)
 one_kept zero c (d ∷ cs) k e = let same : d ≡ c = cc in subst ClassKept same k.0
 one_kept (suc n) c (d ∷ cs) k e = one_kept n c cs k.1 e

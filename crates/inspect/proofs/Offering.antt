@@ -1,10 +1,10 @@
 -- The fronts of a fresh process, and the places of what they leave.
 use Rattle.std.proofs.Common.{◌≡◌, ℕ, zero, suc, ◌≤◌, Bool, true, false, cond, eqb, List, [], ◌∷◌, map, length, take, Some, None, Option, sym, refl, ap, ◌∙◌, subst, arith}
+use Rattle.std.specs.List.{AllByRecursion}
 use Rattle.values.specs.declared.kind.Kind.{Kind}
 use Rattle.values.specs.declared.row.Row.{Row}
 use Rattle.values.specs.Values.{kind_of}
 use Rattle.commands.specs.Trees.{Stmt, Declaration, Class}
-use Rattle.admission.specs.Conditions.{All}
 use Rattle.processes.specs.declared.front.Front.{Front as FrontC}
 use Rattle.processes.specs.Classes.{Front-kept}
 use Rattle.processes.specs.Evaluation.{values_of}
@@ -16,7 +16,7 @@ use Rattle.classes.specs.declared.fresh.Fresh.{Fresh}
 use Rattle.classes.specs.Starts.{FreshOf}
 use Rattle.inspect.specs.Offers.{first_fronts, HasPlaces}
 
-picked : (P : Front → Type 0) (n : ℕ) (xs : List Front) (y : Front) → All P xs → front_numbered n xs ≡ Some y → P y
+picked : (P : Front → Type 0) (n : ℕ) (xs : List Front) (y : Front) → AllByRecursion P xs → front_numbered n xs ≡ Some y → P y
 picked P n [] y h e = absurd (let z : ◌≡◌ {A = ℕ} 0 1 = cc in omega arith)
 picked P n (x ∷ xs) y h e = by (eqb x.number n) (picked P n xs y h.1) e
   where

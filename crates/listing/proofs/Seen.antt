@@ -1,13 +1,12 @@
 -- The steps listed from offers in the code are the steps of the model.
 use Rattle.std.proofs.Common.{◌≡◌, ℕ, zero, suc, ◌<◌, ◌≤◌, Bool, true, false, cond, not, ◌&&◌, eqb, List, [], ◌∷◌, ◌++◌, map, length, get_or, Some, None, Option, sym, refl, ap, ◌∙◌, subst, arith}
 use Rattle.std.proofs.lemmas.List.{length-map}
-use Rattle.std.specs.List.{flat_map}
+use Rattle.std.specs.List.{flat_map, AllByRecursion}
 use Rattle.values.specs.declared.kind.Kind.{Kind}
 use Rattle.values.specs.declared.kind.Kind.TheVariants.{Integer, Boolean}
 use Rattle.values.specs.Values.{Val, integer, kind_of}
 use Rattle.commands.specs.Trees.{Behaviour}
 use Rattle.files.specs.Statements.{same_kinds}
-use Rattle.admission.specs.Conditions.{All}
 use Rattle.processes.specs.Fronts.{Action, internal, store, sends, receives}
 use Rattle.records.specs.declared.step.Step.{Step}
 use Rattle.records.specs.Lists.{optional}
@@ -51,7 +50,7 @@ listed_when true s = refl
 listed_when false s = refl
 
 module _ {X Y : Type 0} (g : X → Y) (P : X → Type 0) (f : Y → List Step) (h : X → List Step) (same : (x : X) → P x → f (g x) ≡ h x) where
-  joined_same : (xs : List X) → All P xs → flat_map f (map g xs) ≡ flat_map h xs
+  joined_same : (xs : List X) → AllByRecursion P xs → flat_map f (map g xs) ≡ flat_map h xs
   joined_same [] a = refl
   joined_same (x ∷ xs) a = let e = same x a.0 in let r = joined_same xs a.1 in (λ i. e i ++ r i)
 
@@ -137,11 +136,11 @@ module _ (b : Behaviour) (t : List ℕ) (arrives : ArrivesBy t b) where
   meeting_same : (s r : steps.Offer) → Holdable s → Holdable r → meeting_steps t (offer_of s) (offer_of r) ≡ steps.meeting_steps b s r
   meeting_same s r h k = pair_same s r s.front.does r.front.does h.numbered k.numbered h.action k.action ∙ pair_is s r s.front.does
 
-  meetings_same : (os : List steps.Offer) → All Holdable os → (s : steps.Offer) → Holdable s → meetings t (map offer_of os) (offer_of s) ≡ steps.meetings b os s
+  meetings_same : (os : List steps.Offer) → AllByRecursion Holdable os → (s : steps.Offer) → Holdable s → meetings t (map offer_of os) (offer_of s) ≡ steps.meetings b os s
   unfolding meetings steps.meetings
   meetings_same os a s h = joined_same offer_of Holdable (meeting_steps t (offer_of s)) (steps.meeting_steps b s) (λ r k. meeting_same s r h k) os a
 
-  pub listed_same : (os : List steps.Offer) → All Holdable os → listed t (map offer_of os) ≡ steps_of b os
+  pub listed_same : (os : List steps.Offer) → AllByRecursion Holdable os → listed t (map offer_of os) ≡ steps_of b os
   unfolding listed steps_of
   listed_same os a =
       let i = joined_same offer_of Holdable internal_steps steps.internal_steps (λ o h. internal_same o) os a in

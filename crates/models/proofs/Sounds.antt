@@ -1,12 +1,12 @@
 -- What the memory of a model stands for.
 use Rattle.std.proofs.Common.{◌≡◌, ℕ, zero, suc, ◌<◌, ◌≤◌, Bool, true, false, cond, ◌&&◌, eqb, ltb, List, [], ◌∷◌, map, length, None, Ok, Err, sym, refl, ap, ◌∙◌, subst, arith}
+use Rattle.std.specs.List.{AllByRecursion}
 use Rattle.std.proofs.lemmas.Bool.{eqb-true, lt-ltb}
 use Rattle.commands.specs.ByteLists.{Bytes}
 use Rattle.commands.specs.Trees.{Behaviour}
 use Rattle.files.specs.Checked.{Checked}
 use Rattle.files.specs.Files.{Summary, check_file, levels}
 use Rattle.parts.specs.Parts.{behaviour_in}
-use Rattle.admission.specs.Conditions.{All}
 use Rattle.admission.specs.Read.{tree_in}
 use Rattle.admission.proofs.Oks.{both_true}
 use Rattle.arrivals.specs.Climbing.{arrival_in, arrival_table, meeting_channel}
@@ -55,10 +55,10 @@ module _ (m : Model) where
         passes = λ p c lp lc. ap (λ t. arrival_in t p 8 c) (m.travels h) ∙ table_laws.outside _ b p c kept lp lc;
       }
 
-list_is : (ch : List ℕ) (b : Behaviour) (f : List ℕ) (t : Table) (count : ℕ) → (0 < count → ArrivesBy ch b) → All Holdable (offers_from 0 (processes_in f t count)) → listed ch (map offer_of (offers_from 0 (processes_in f t count))) ≡ steps_of b (offers_from 0 (processes_in f t count))
+list_is : (ch : List ℕ) (b : Behaviour) (f : List ℕ) (t : Table) (count : ℕ) → (0 < count → ArrivesBy ch b) → AllByRecursion Holdable (offers_from 0 (processes_in f t count)) → listed ch (map offer_of (offers_from 0 (processes_in f t count))) ≡ steps_of b (offers_from 0 (processes_in f t count))
 unfolding listed steps_of
 list_is ch b f t zero a h = refl
 list_is ch b f t (suc n) a h = listed_same b ch (a (omega arith)) (offers_from 0 (processes_in f t (suc n))) h
 
-pub lists_steps : (m : Model) → Bytes (bytes_of m) → All Holdable (offers (model_of m)) → listed m.arrivals.channels (map offer_of (offers (model_of m))) ≡ steps (model_of m)
+pub lists_steps : (m : Model) → Bytes (bytes_of m) → AllByRecursion Holdable (offers (model_of m)) → listed m.arrivals.channels (map offer_of (offers (model_of m))) ≡ steps (model_of m)
 lists_steps m bs h = list_is m.arrivals.channels _ (bytes_of m) m.table m.count (arrives m bs) h

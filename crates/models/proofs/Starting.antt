@@ -1,6 +1,6 @@
 -- The table that an admitted file starts with.
 use Rattle.std.proofs.Common.{◌≡◌, ℕ, zero, suc, ◌+◌, ◌<◌, ◌≤◌, Bool, true, false, ◌&&◌, eqb, ltb, ◌≢◌, ◌⊎◌, List, [], ◌∷◌, map, length, get_or, take, set, Some, None, Ok, sym, refl, ap, ◌∙◌, subst, inl, inr, add-zero, zero-add, arith, get_or-set_other, get_or-set_same}
-use Rattle.std.specs.List.{range_with_len, slice_get}
+use Rattle.std.specs.List.{range_with_len, slice_get, AllByRecursion}
 use Rattle.std.proofs.lemmas.Bool.{lt-ltb, eq-eqb}
 use Rattle.std.proofs.lemmas.Bool.Decides.{eqb_tells}
 use Rattle.values.specs.declared.row.Row.{Row}
@@ -11,7 +11,7 @@ use Rattle.commands.specs.Stands.{BehaviourAt}
 use Rattle.commands.specs.Trees.{Behaviour, Class, File}
 use Rattle.files.specs.Checked.{◌>>=◌}
 use Rattle.files.specs.Files.{Summary, check_file, levels}
-use Rattle.admission.specs.Conditions.{All, processes, ClassKept}
+use Rattle.admission.specs.Conditions.{processes, ClassKept}
 use Rattle.admission.specs.Read.{tree_in, read}
 use Rattle.admission.proofs.Rereading.{reads_trees}
 use Rattle.processes.specs.Classes.{HasRoom}
@@ -32,7 +32,7 @@ use Rattle.models.specs.Sound.{found}
 use Rattle.models.specs.Views.{start_of}
 use Rattle.models.specs.Making.{FreshProcess, FreshTable}
 
-all_at : (n : ℕ) (ks : List ℕ) (p : ℕ) → All (λ k. k < n) ks → p < length ks → get_or ks p 0 < n
+all_at : (n : ℕ) (ks : List ℕ) (p : ℕ) → AllByRecursion (λ k. k < n) ks → p < length ks → get_or ks p 0 < n
 all_at n [] p a h = absurd (omega arith)
 all_at n (k ∷ ks) zero a h = a.0
 all_at n (k ∷ ks) (suc p) a h = all_at n ks p a.1 (omega arith)

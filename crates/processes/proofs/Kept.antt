@@ -1,6 +1,6 @@
 -- A process keeps its class, whatever fronts are taken.
 use Rattle.std.proofs.Common.{◌≡◌, ℕ, zero, suc, ◌+◌, ◌<◌, ◌≤◌, Bool, true, false, cond, not, ltb, List, [], ◌∷◌, ◌++◌, map, length, get_or, set, Some, None, sym, refl, ap, ◌∙◌, subst, inl, inr, ⊎_elim, arith}
-use Rattle.std.specs.List.{slice_get}
+use Rattle.std.specs.List.{slice_get, AllByRecursion}
 use Rattle.values.specs.declared.kind.Kind.{Kind}
 use Rattle.values.specs.declared.kind.Kind.TheVariants.{Boolean}
 use Rattle.values.specs.declared.op.Op.{Op}
@@ -12,7 +12,7 @@ use Rattle.commands.specs.declared.expression.Leaf.TheVariants.{Int, Bool as Boo
 use Rattle.commands.specs.Depths.{stmt_depth}
 use Rattle.commands.specs.Trees.{Expr, leaf, binary, negation, Stmt, skip, assign, send, receive, sequence, select, guard, branch, loop, Declaration, Class}
 use Rattle.files.specs.Statements.{exchange}
-use Rattle.admission.specs.Conditions.{LeafKept, ExprKept, ExprsKept, StmtKept, HaveKinds, Declares, All, ClassKept, most_fronts}
+use Rattle.admission.specs.Conditions.{LeafKept, ExprKept, ExprsKept, StmtKept, HaveKinds, Declares, ClassKept, most_fronts}
 use Rattle.processes.specs.Evaluation.{eval, leaf_value}
 use Rattle.processes.specs.Fronts.{Action, internal, store, sends, receives, Front, front, is_true, is_false, offered, fronts, process_fronts}
 use Rattle.processes.specs.Classes.{Part, HasRoom, stored, after, Permitted, Brings, FrontOf, ClassLaws}
@@ -117,15 +117,15 @@ stored_kinds vs (w ∷ ws) (x ∷ got) h =
     stored_kinds (set vs w x) ws got (subst (λ ks. HaveKinds ks ws (map kind_of got)) (sym p) h.1) ∙ p
 
 -- lists of fronts
-all_join : (P : Front → Type 0) (xs ys : List Front) → All P xs → All P ys → All P (xs ++ ys)
+all_join : (P : Front → Type 0) (xs ys : List Front) → AllByRecursion P xs → AllByRecursion P ys → AllByRecursion P (xs ++ ys)
 all_join P [] ys a b = b
 all_join P (x ∷ xs) ys a b = (a.0, all_join P xs ys a.1 b)
 
-all_guarded : (P : Front → Type 0) (t : Bool) (xs : List Front) → All P xs → All P (cond t xs [])
+all_guarded : (P : Front → Type 0) (t : Bool) (xs : List Front) → AllByRecursion P xs → AllByRecursion P (cond t xs [])
 all_guarded P true xs a = a
 all_guarded P false xs a = tt
 
-all_offered : (P : Front → Type 0) (t : Bool) (x : Front) → P x → All P (offered t x)
+all_offered : (P : Front → Type 0) (t : Bool) (x : Front) → P x → AllByRecursion P (offered t x)
 all_offered P true x p = (p, tt)
 all_offered P false x p = tt
 
@@ -139,10 +139,10 @@ module _ (c : Class) (kept : ClassKept c) (vs : List Val) (kinds : map kind_of v
   after_kinds (sends channel message xs) got p b = kinds
   after_kinds (receives channel message ws) got p b = stored_kinds vs ws got (subst (λ ks. HaveKinds ks ws (map kind_of got)) (sym kinds) b) ∙ kinds
 
-  one : (n : ℕ) (a : Action) (l : List Stmt) → n < 8 → Permitted c a → All Own l → HasRoom l → FrontOf c vs (front n a l)
+  one : (n : ℕ) (a : Action) (l : List Stmt) → n < 8 → Permitted c a → AllByRecursion Own l → HasRoom l → FrontOf c vs (front n a l)
   one n a l h p q r = record { permitted = p; goes_on = λ got b. record { kinds = after_kinds a got p b; parts = q; room = r }; numbered = h }
 
-  two : (v : Val) (n : ℕ) (x y : List Stmt) → n + 2 ≤ 8 → All Own x → HasRoom x → All Own y → HasRoom y → All (FrontOf c vs) (offered (not (is_false v)) (front n internal x) ++ offered (not (is_true v)) (front (n + 1) internal y))
+  two : (v : Val) (n : ℕ) (x y : List Stmt) → n + 2 ≤ 8 → AllByRecursion Own x → HasRoom x → AllByRecursion Own y → HasRoom y → AllByRecursion (FrontOf c vs) (offered (not (is_false v)) (front n internal x) ++ offered (not (is_true v)) (front (n + 1) internal y))
   two v n x y h p r q t =
       all_join (FrontOf c vs) _ _
       (all_offered (FrontOf c vs) (not (is_false v)) _ (one n internal x (omega (arith, h)) tt p r))
@@ -154,7 +154,7 @@ module _ (c : Class) (kept : ClassKept c) (vs : List Val) (kinds : map kind_of v
   own : (t s : Stmt) → Own t → Part t s → Own s
   own t s p q = below c.statement t s p q
 
-  fronts_kept : (n : ℕ) (s : Stmt) (rest : List Stmt) → n + most_fronts s ≤ 8 → Own s → All Own rest → HasRoom (s ∷ rest) → All (FrontOf c vs) (fronts vs n s rest)
+  fronts_kept : (n : ℕ) (s : Stmt) (rest : List Stmt) → n + most_fronts s ≤ 8 → Own s → AllByRecursion Own rest → HasRoom (s ∷ rest) → AllByRecursion (FrontOf c vs) (fronts vs n s rest)
   fronts_kept n skip rest h p q r = (one n internal rest (omega (arith, h)) tt q r.1, tt)
   fronts_kept n (assign v e) rest h p q r =
       let k = own_kept (assign v e) p in
@@ -184,7 +184,7 @@ module _ (c : Class) (kept : ClassKept c) (vs : List Val) (kinds : map kind_of v
       (own (loop e a) a p (inr (same a)), (p, q)) (omega (arith, r.0), (r.0, r.1))
       q r.1
 
-  left_kept : (left : List Stmt) → All Own left → HasRoom left → All (FrontOf c vs) (process_fronts vs left)
+  left_kept : (left : List Stmt) → AllByRecursion Own left → HasRoom left → AllByRecursion (FrontOf c vs) (process_fronts vs left)
   left_kept [] q r = tt
   left_kept (s ∷ rest) q r = fronts_kept 0 s rest (omega (arith, few_fronts _ _ s (own_kept s q.0))) q.0 q.1 r
 

@@ -1,12 +1,12 @@
 -- What a process keeps of its class, whatever fronts are taken.
 use Rattle.std.specs.Prelude.{◌≡◌, ℕ, ◌+◌, ◌<◌, ◌≤◌, true, false, ◌⊎◌, List, [], ◌∷◌, map, length, Some, slice_set}
-use Rattle.std.specs.List.{slice_get}
+use Rattle.std.specs.List.{slice_get, AllByRecursion}
 use Rattle.values.specs.declared.kind.Kind.{Kind}
 use Rattle.values.specs.Values.{Val, kind_of}
 use Rattle.commands.specs.Depths.{stmt_depth}
 use Rattle.commands.specs.Trees.{Stmt, skip, assign, send, receive, sequence, select, guard, branch, loop, Class}
 use Rattle.files.specs.Statements.{exchange}
-use Rattle.admission.specs.Conditions.{Declares, HaveKinds, All, ClassKept}
+use Rattle.admission.specs.Conditions.{Declares, HaveKinds, ClassKept}
 use Rattle.processes.specs.Fronts.{Action, internal, store, sends, receives, Front, process_fronts}
 
 -- the second is the first or a statement in it
@@ -29,7 +29,7 @@ HasRoom (s ∷ rest) = (length rest + stmt_depth s ≤ 32) × HasRoom rest
 -- the variables of a process, and what remains of it, belong to its class
 pub record ProcessOf (c : Class) (vs : List Val) (left : List Stmt) : Type 0 where
   pub kinds : map kind_of vs ≡ map kind_of c.variables
-  pub parts : All (Part c.statement) left
+  pub parts : AllByRecursion (Part c.statement) left
   pub room : HasRoom left
 
 -- variables after a front, with the values that it received
@@ -66,6 +66,6 @@ pub record FrontOf (c : Class) (vs : List Val) (x : Front) : Type 0 where
 
 pub record ClassLaws : Type 0 where
   pub fresh : (c : Class) → ClassKept c → ProcessOf c c.variables (c.statement ∷ [])
-  pub fronts_kept : (c : Class) (vs : List Val) (left : List Stmt) → ClassKept c → ProcessOf c vs left → All (FrontOf c vs) (process_fronts vs left)
+  pub fronts_kept : (c : Class) (vs : List Val) (left : List Stmt) → ClassKept c → ProcessOf c vs left → AllByRecursion (FrontOf c vs) (process_fronts vs left)
   -- what remains of a process fits in 32 places
   pub few : (c : Class) (vs : List Val) (left : List Stmt) → ProcessOf c vs left → length left ≤ 32

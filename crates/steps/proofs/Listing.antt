@@ -1,12 +1,12 @@
 -- How many steps there are, and that none is listed twice.
 use Rattle.std.proofs.Common.{◌≡◌, ℕ, ◌+◌, ◌*◌, ◌≤◌, Bool, true, false, cond, not, ◌&&◌, eqb, ◌⊎◌, List, [], ◌∷◌, map, length, Some, None, Option, sym, ap, ◌∙◌, ⊎_elim, arith, length-append}
 use Rattle.std.proofs.lemmas.List.{length-map}
-use Rattle.std.specs.List.{flat_map}
+use Rattle.std.specs.List.{flat_map, AllByRecursion}
 use Rattle.values.specs.declared.kind.Kind.{Kind}
 use Rattle.values.specs.Values.{Val, kind_of}
 use Rattle.commands.specs.Trees.{Stmt, Behaviour, Class}
 use Rattle.files.specs.Statements.{same_kinds}
-use Rattle.admission.specs.Conditions.{All, ClassKept}
+use Rattle.admission.specs.Conditions.{ClassKept}
 use Rattle.processes.proofs.Kept.{part_kept, few_fronts}
 use Rattle.processes.proofs.Numbered.{numbered}
 use Rattle.processes.specs.Classes.{ProcessOf}
@@ -37,7 +37,7 @@ few_of c vs (s ∷ rest) k h =
     let own = part_kept (map kind_of c.variables) c.declarations c.statement s k.statement_kept h.parts.0 in
     omega (arith, long 0 _ _ (numbered vs 0 s rest), few_fronts _ _ s own)
 
-few_offers : (cs : List Class) → All ClassKept cs → (p : ℕ) (ps : List Process) → All (ProcessKept cs) ps → length (offers_from p ps) ≤ 8 * length ps
+few_offers : (cs : List Class) → AllByRecursion ClassKept cs → (p : ℕ) (ps : List Process) → AllByRecursion (ProcessKept cs) ps → length (offers_from p ps) ≤ 8 * length ps
 few_offers cs k p [] a = omega arith
 few_offers cs k p (one ∷ others) a =
     let c = class_numbered cs one.class in

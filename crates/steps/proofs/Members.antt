@@ -1,7 +1,6 @@
 -- What stands in a list.
 use Rattle.std.proofs.Common.{◌≡◌, ℕ, zero, suc, ◌⊎◌, List, [], ◌∷◌, ◌++◌, map, set, Some, sym, refl, ap, subst, inl, inr, ⊎_elim, arith}
-use Rattle.std.specs.List.{flat_map, slice_get}
-use Rattle.admission.specs.Conditions.{All}
+use Rattle.std.specs.List.{flat_map, slice_get, AllByRecursion}
 
 abbrev pub In : {A : Type 0} → A → List A → Type 0
 In x [] = ⊥
@@ -38,15 +37,15 @@ module _ {A : Type 0} where
 
   -- what holds of each
   module _ (P : A → Type 0) where
-    pub all_in : (xs : List A) → All P xs → (x : A) → In x xs → P x
+    pub all_in : (xs : List A) → AllByRecursion P xs → (x : A) → In x xs → P x
     all_in [] a x h = absurd h
     all_in (y ∷ xs) a x h = ⊎_elim (λ e. subst P (sym e) a.0) (all_in xs a.1 x) h
 
-    pub all_from : (xs : List A) → ((x : A) → In x xs → P x) → All P xs
+    pub all_from : (xs : List A) → ((x : A) → In x xs → P x) → AllByRecursion P xs
     all_from [] f = tt
     all_from (x ∷ xs) f = (f x (inl refl), all_from xs (λ y h. f y (inr h)))
 
-    pub all_set : (xs : List A) (i : ℕ) (x : A) → All P xs → P x → All P (set xs i x)
+    pub all_set : (xs : List A) (i : ℕ) (x : A) → AllByRecursion P xs → P x → AllByRecursion P (set xs i x)
     all_set [] i x a h = tt
     all_set (y ∷ xs) zero x a h = (h, a.1)
     all_set (y ∷ xs) (suc i) x a h = (a.0, all_set xs i x a.1 h)

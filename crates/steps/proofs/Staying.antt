@@ -1,10 +1,11 @@
 -- What a step leaves as it was, and what is kept.
 use Rattle.std.proofs.Common.{◌≡◌, ℕ, zero, suc, ◌+◌, ◌<◌, Bool, true, false, cond, ◌&&◌, eqb, ◌≢◌, List, [], ◌∷◌, ◌++◌, map, length, sym, refl, ◌∙◌, arith}
+use Rattle.std.specs.List.{AllByRecursion}
 use Rattle.std.proofs.lemmas.List.{length-map, length-append, get_or-set_other}
 use Rattle.std.proofs.lemmas.Bool.{or_parts, eqb-false}
 use Rattle.values.specs.Values.{Val}
 use Rattle.commands.specs.Trees.{Behaviour, process, parallel, hide, rename, Class, File}
-use Rattle.admission.specs.Conditions.{All, ClassKept, BehaviourKept, Conditions, processes}
+use Rattle.admission.specs.Conditions.{ClassKept, BehaviourKept, Conditions, processes}
 use Rattle.processes.proofs.Kept.{class_laws}
 use Rattle.records.specs.declared.step.Step.{Step}
 use Rattle.records.specs.Steps.{has}
@@ -42,22 +43,22 @@ pub behaviour_stays : (m : Model) (s : Step) (given : List Val) → (after_step 
 behaviour_stays m s given = either (λ z. z.behaviour) m.behaviour (eqb s.kind 1) _ _ refl refl
 
 -- the start
-pub class_kept : (cs : List Class) (k : ℕ) → All ClassKept cs → k < length cs → ClassKept (class_numbered cs k)
+pub class_kept : (cs : List Class) (k : ℕ) → AllByRecursion ClassKept cs → k < length cs → ClassKept (class_numbered cs k)
 class_kept [] k a h = absurd (omega arith)
 class_kept (c ∷ cs) zero a h = a.0
 class_kept (c ∷ cs) (suc k) a h = class_kept cs k a.1 (omega arith)
 
-pub all_append : {A : Type 0} (P : A → Type 0) (xs ys : List A) → All P xs → All P ys → All P (xs ++ ys)
+pub all_append : {A : Type 0} (P : A → Type 0) (xs ys : List A) → AllByRecursion P xs → AllByRecursion P ys → AllByRecursion P (xs ++ ys)
 all_append P [] ys a b = b
 all_append P (x ∷ xs) ys a b = (a.0, all_append P xs ys a.1 b)
 
-pub classes_exist : (n : ℕ) (b : Behaviour) → BehaviourKept n b → All (λ k. k < n) (process_classes b)
+pub classes_exist : (n : ℕ) (b : Behaviour) → BehaviourKept n b → AllByRecursion (λ k. k < n) (process_classes b)
 classes_exist n (process k) h = (h, tt)
 classes_exist n (parallel a b) h = all_append (λ k. k < n) (process_classes a) (process_classes b) (classes_exist n a h.0) (classes_exist n b h.1)
 classes_exist n (hide s a) h = classes_exist n a h.1
 classes_exist n (rename x y a) h = classes_exist n a h.2
 
-fresh_kept : (cs : List Class) → All ClassKept cs → (ks : List ℕ) → All (λ k. k < length cs) ks → All (ProcessKept cs) (map (fresh cs) ks)
+fresh_kept : (cs : List Class) → AllByRecursion ClassKept cs → (ks : List ℕ) → AllByRecursion (λ k. k < length cs) ks → AllByRecursion (ProcessKept cs) (map (fresh cs) ks)
 fresh_kept cs a [] h = tt
 fresh_kept cs a (k ∷ ks) h =
     (record { of_class = h.0; process = class_laws.fresh (class_numbered cs k) (class_kept cs k a h.0) }, fresh_kept cs a ks h.1)

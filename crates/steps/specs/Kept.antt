@@ -1,7 +1,8 @@
 -- What a model keeps, whatever steps are taken.
 use Rattle.std.specs.Prelude.{ℕ, ◌<◌, ◌≤◌, List, length}
+use Rattle.std.specs.List.{AllByRecursion}
 use Rattle.commands.specs.Trees.{Class}
-use Rattle.admission.specs.Conditions.{All, ClassKept}
+use Rattle.admission.specs.Conditions.{ClassKept}
 use Rattle.processes.specs.Classes.{ProcessOf}
 use Rattle.steps.specs.Models.{Process, Model, class_numbered}
 
@@ -11,6 +12,6 @@ pub record ProcessKept (cs : List Class) (one : Process) : Type 0 where
   pub process : ProcessOf (class_numbered cs one.class) one.variables one.left
 
 pub record ModelKept (m : Model) : Type 0 where
-  pub classes_kept : All ClassKept m.classes
-  pub processes_kept : All (ProcessKept m.classes) m.processes
+  pub classes_kept : AllByRecursion ClassKept m.classes
+  pub processes_kept : AllByRecursion (ProcessKept m.classes) m.processes
   pub few : length m.processes ≤ 8

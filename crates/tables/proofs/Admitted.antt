@@ -1,5 +1,6 @@
 -- What an admitted file's classes keep.
 use Rattle.std.proofs.Common.{◌≡◌, ℕ, zero, suc, ◌<◌, ◌≤◌, Bool, true, false, ◌&&◌, ltb, List, [], ◌∷◌, map, length, get_or, Ok, sym, refl, ap, ◌∙◌, subst, arith}
+use Rattle.std.specs.List.{AllByRecursion}
 use Rattle.std.proofs.lemmas.Bool.{ltb-true}
 use Rattle.values.specs.declared.row.Row.{Row}
 use Rattle.commands.specs.ByteLists.{Bytes}
@@ -8,7 +9,7 @@ use Rattle.commands.specs.Trees.{Class, File}
 use Rattle.files.specs.Checked.{◌>>=◌}
 use Rattle.files.specs.Files.{Summary, check_file}
 use Rattle.admission.specs.Admission.{summary}
-use Rattle.admission.specs.Conditions.{All, ClassKept, Conditions}
+use Rattle.admission.specs.Conditions.{ClassKept, Conditions}
 use Rattle.admission.specs.Read.{classes_in, tree_in, read}
 use Rattle.admission.proofs.Oks.{both_true, ok_is}
 use Rattle.admission.proofs.Rereading.{reads_trees}
@@ -52,7 +53,7 @@ good f n e rows bs p =
     let r = file_reads f s bs p.admitted.1 in
     let h = both_true (ltb e.class n) _ p.sound in
     let below = ltb-true e.class n h.0 in
-    let all : All ClassKept (classes_in n f 4) = subst (λ m. All ClassKept (classes_in m f 4)) p.admitted.2 r.conditions.classes_kept in
+    let all : AllByRecursion ClassKept (classes_in n f 4) = subst (λ m. AllByRecursion ClassKept (classes_in m f 4)) p.admitted.2 r.conditions.classes_kept in
     let short : length f ≤ 4096 = subst (λ x. length x ≤ 4096) r.bytes r.conditions.short in
     record {
       class_kept = its_class_kept (classes_in n f 4) e.class all (omega (arith, classes_many n f 4));

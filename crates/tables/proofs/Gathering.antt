@@ -2,11 +2,11 @@
 use Rattle.std.proofs.Common.{◌≡◌, ℕ, zero, suc, ◌+◌, ◌<◌, ◌≤◌, Bool, true, false, cond, eqb, ◌⊎◌, List, [], ◌∷◌, ◌++◌, map, length, Some, None, Option, sym, refl, ap, ◌∙◌, subst, inl, inr, arith}
 use Rattle.std.proofs.lemmas.Bool.{eqb-true, eq-eqb, ne_eqb}
 use Rattle.std.proofs.lemmas.Bool.Decides.{eqb_tells}
-use Rattle.std.specs.List.{range_with_len, flat_map}
+use Rattle.std.specs.List.{range_with_len, flat_map, AllByRecursion}
 use Rattle.values.specs.declared.kind.Kind.{Kind}
 use Rattle.values.specs.Values.{Val}
 use Rattle.commands.specs.Trees.{Stmt, Declaration}
-use Rattle.admission.specs.Conditions.{All, StmtKept, most_fronts}
+use Rattle.admission.specs.Conditions.{StmtKept, most_fronts}
 use Rattle.records.specs.Lists.{optional}
 use Rattle.listing.specs.Offers.{offer_of}
 use Rattle.steps.specs.Models.{Process}
@@ -88,7 +88,7 @@ module _ {T : Type 0} (g : Option Front → Option T) (h : Front → T) (g_none 
           above_one l = omega arith
 
 -- a process whose statements are kept offers the fronts of eight numbers
-pub eight : (ks : List Kind) (ds : List Declaration) (vs : List Val) (ss : List Stmt) → All (StmtKept ks ds) ss → Ascend 0 (process_fronts vs ss) 8
+pub eight : (ks : List Kind) (ds : List Declaration) (vs : List Val) (ss : List Stmt) → AllByRecursion (StmtKept ks ds) ss → Ascend 0 (process_fronts vs ss) 8
 eight ks ds vs [] k = omega arith
 eight ks ds vs (s ∷ ss) k =
     let few = few_fronts ks ds s k.0 in

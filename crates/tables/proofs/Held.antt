@@ -1,13 +1,13 @@
 -- The offers of a sound table can be held by the code.
 use Rattle.std.proofs.Common.{◌≡◌, ℕ, zero, suc, ◌+◌, ◌*◌, ◌<◌, ◌≤◌, Bool, true, false, List, [], ◌∷◌, ◌++◌, map, length, get_or, Some, None, Option, sym, refl, ap, ◌∙◌, subst, arith, length-append}
 use lib.ListN.{length-map}
-use Rattle.std.specs.List.{range_with_len, slice_get}
+use Rattle.std.specs.List.{range_with_len, slice_get, AllByRecursion}
 use Rattle.values.specs.declared.kind.Kind.{Kind}
 use Rattle.values.specs.Values.{Val, kind_of}
 use Rattle.commands.specs.ByteLists.{Bytes}
 use Rattle.commands.specs.Trees.{Declaration, Class}
 use Rattle.files.specs.Statements.{exchange}
-use Rattle.admission.specs.Conditions.{All, Declares, HaveKinds, DeclarationKept, ExchangeKept, ClassKept}
+use Rattle.admission.specs.Conditions.{Declares, HaveKinds, DeclarationKept, ExchangeKept, ClassKept}
 use Rattle.processes.specs.Classes.{Permitted, Front-kept}
 use Rattle.processes.specs.Evaluation.{values_of}
 use Rattle.processes.specs.Fronts.{Action, internal, store, sends, receives, Front, process_fronts}
@@ -25,7 +25,7 @@ use Rattle.tables.proofs.Gathering.{eight, ascend_short}
 use Rattle.tables.proofs.Moved.{kinds_of_class}
 
 -- what is declared keeps the bounds of declarations
-declared_kept : (ds : List Declaration) (d : Declaration) (i : ℕ) → All DeclarationKept ds → slice_get ds i ≡ Some d → DeclarationKept d
+declared_kept : (ds : List Declaration) (d : Declaration) (i : ℕ) → AllByRecursion DeclarationKept ds → slice_get ds i ≡ Some d → DeclarationKept d
 declared_kept [] d i a h = absurd (let z : ◌≡◌ {A = ℕ} 0 1 = cc in omega arith)
 declared_kept (e ∷ ds) d zero a h = let s : e ≡ d = cc in subst DeclarationKept s a.0
 declared_kept (e ∷ ds) d (suc i) a h = declared_kept ds d i a.1 h
@@ -36,7 +36,7 @@ as_many ks [] (j ∷ js) h = absurd h
 as_many ks (w ∷ ws) [] h = absurd h
 as_many ks (w ∷ ws) (j ∷ js) h = ap suc (as_many ks ws js h.1)
 
-action_held : (ks : List Kind) (ds : List Declaration) (a : Action) → All DeclarationKept ds → Permitted ks ds a → HoldableAction a
+action_held : (ks : List Kind) (ds : List Declaration) (a : Action) → AllByRecursion DeclarationKept ds → Permitted ks ds a → HoldableAction a
 action_held ks ds internal k p = tt
 action_held ks ds (store v x) k p = tt
 action_held ks ds (sends c m xs) k p =
@@ -46,12 +46,12 @@ action_held ks ds (receives c m ws) k p =
     let d = (declared_kept ds (exchange true c m p.0) p.2.0 k p.2.1).exchange_kept in
     (d.channel_kept, omega (arith, d.count_kept, as_many ks ws p.0 p.1))
 
-fronts_held : (ks : List Kind) (ds : List Declaration) (vs us : List Val) (p : ℕ) (fs : List Front) → p < 8 → All DeclarationKept ds → All (Front-kept ks ds us) fs → All Holdable (map (λ x. record { process = p; variables = vs; front = x }) fs)
+fronts_held : (ks : List Kind) (ds : List Declaration) (vs us : List Val) (p : ℕ) (fs : List Front) → p < 8 → AllByRecursion DeclarationKept ds → AllByRecursion (Front-kept ks ds us) fs → AllByRecursion Holdable (map (λ x. record { process = p; variables = vs; front = x }) fs)
 fronts_held ks ds vs us p [] l k a = tt
 fronts_held ks ds vs us p (x ∷ fs) l k a = (record { numbered = l; action = action_held ks ds x.does k a.0.permitted }, fronts_held ks ds vs us p fs l k a.1)
 
 module _ (f : List ℕ) (n : ℕ) (bs : Bytes f) (t : Table) (count : ℕ) (sound : SoundTable f n t count) where
-  process_held : (p : ℕ) → p < count → All Holdable (offers_of p (process_in f t p))
+  process_held : (p : ℕ) → p < count → AllByRecursion Holdable (offers_of p (process_in f t p))
   process_held p l =
       let e = get_or t.entries p no_entry in
       let rows = rows_of t p in
@@ -77,9 +77,9 @@ module _ (f : List ℕ) (n : ℕ) (bs : Bytes f) (t : Table) (count : ℕ) (soun
   pub table_few : length (offers_from 0 (processes_in f t count)) ≤ 64
   table_few = omega (arith, some_few 0 count (omega arith), sound.few)
 
-  some_held : (k m : ℕ) → k + m ≤ count → All Holdable (offers_from k (map (process_in f t) (range_with_len k m)))
+  some_held : (k m : ℕ) → k + m ≤ count → AllByRecursion Holdable (offers_from k (map (process_in f t) (range_with_len k m)))
   some_held k zero h = tt
   some_held k (suc m) h = all_append Holdable (offers_of k (process_in f t k)) _ (process_held k (omega (arith, h))) (some_held (k + 1) m (omega (arith, h)))
 
-  pub table_held : All Holdable (offers_from 0 (processes_in f t count))
+  pub table_held : AllByRecursion Holdable (offers_from 0 (processes_in f t count))
   table_held = some_held 0 count (omega arith)

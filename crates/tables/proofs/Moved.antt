@@ -1,12 +1,12 @@
 -- What a table stands for after a front of one process.
 use Rattle.std.proofs.Common.{◌≡◌, ℕ, ◌<◌, Bool, true, false, cond, ◌&&◌, eqb, ltb, ◌≢◌, List, [], ◌∷◌, map, length, get_or, take, set, Some, None, Option, sym, refl, ap, ◌∙◌, subst, arith, get_or-set_other, get_or-set_same}
+use Rattle.std.specs.List.{AllByRecursion}
 use Rattle.std.proofs.lemmas.Bool.{lt-ltb}
 use Rattle.values.specs.declared.kind.Kind.{Kind}
 use Rattle.values.specs.declared.row.Row.{Row}
 use Rattle.values.specs.Values.{Val, kind_of}
 use Rattle.commands.specs.ByteLists.{Bytes}
 use Rattle.commands.specs.Trees.{Stmt, Class, Declaration}
-use Rattle.admission.specs.Conditions.{All}
 use Rattle.processes.specs.declared.front.Front.{Front as FrontC}
 use Rattle.processes.specs.Classes.{after, Brings, Front-kept}
 use Rattle.processes.specs.Evaluation.{values_of}
@@ -26,7 +26,7 @@ use Rattle.tables.proofs.Sound.{all_read, and_true, kept_sound}
 use Rattle.tables.proofs.Storing.{take_after, take_map}
 
 -- what holds of all fronts holds of the one of a number
-pub of_number : (P : Front → Type 0) (n : ℕ) (fs : List Front) (y : Front) → All P fs → front_numbered n fs ≡ Some y → P y
+pub of_number : (P : Front → Type 0) (n : ℕ) (fs : List Front) (y : Front) → AllByRecursion P fs → front_numbered n fs ≡ Some y → P y
 of_number P n [] y a h = absurd (let z : ◌≡◌ {A = ℕ} 0 1 = cc in omega arith)
 of_number P n (x ∷ fs) y a h = by (λ k. of_number P n fs y a.1 k) (eqb x.number n) h
   where

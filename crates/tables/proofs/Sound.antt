@@ -1,5 +1,6 @@
 -- An entry that is sound stands for a process of its class, and what a front leaves is sound again.
 use Rattle.std.proofs.Common.{◌≡◌, ℕ, ◌+◌, ◌<◌, ◌≤◌, Bool, true, false, ◌&&◌, eqb, ltb, leb, List, [], ◌∷◌, map, length, is_ok, Ok, Err, Result, sym, refl, ap, ◌∙◌, subst, arith}
+use Rattle.std.specs.List.{AllByRecursion}
 use Rattle.std.proofs.lemmas.Bool.{leb-true, le-leb, eqb-true, eq-eqb}
 use Rattle.values.specs.declared.kind.Kind.{Kind}
 use Rattle.values.specs.declared.row.Row.{Row}
@@ -14,7 +15,7 @@ use Rattle.files.specs.Statements.{same_kinds}
 use Rattle.files.specs.Statements.{check_statement}
 use Rattle.parts.specs.Parts.{stmt_in}
 use Rattle.parts.proofs.Reading.{stmt_reads}
-use Rattle.admission.specs.Conditions.{All, StmtKept, ClassKept}
+use Rattle.admission.specs.Conditions.{StmtKept, ClassKept}
 use Rattle.admission.proofs.Exchanges.{same_kinds_from, same_kinds_refl}
 use Rattle.admission.proofs.Oks.{both_true}
 use Rattle.admission.proofs.Stmts.{stmt_sound, stmt_complete}
@@ -50,12 +51,12 @@ module _ (f : List ℕ) (c : Class) where
   all_stand bs [] h = tt
   all_stand bs (q ∷ qs) h = let p = both_true (passes f c q) (all_pass f c qs) h in ((place_stands bs q p.0).0, all_stand bs qs p.1)
 
-  all_kept : Bytes f → (qs : List ℕ) → all_pass f c qs ≡ true → All (StmtKept (kinds c) c.declarations) (map (λ q. stmt_in levels f q) qs)
+  all_kept : Bytes f → (qs : List ℕ) → all_pass f c qs ≡ true → AllByRecursion (StmtKept (kinds c) c.declarations) (map (λ q. stmt_in levels f q) qs)
   all_kept bs [] h = tt
   all_kept bs (q ∷ qs) h = let p = both_true (passes f c q) (all_pass f c qs) h in ((place_stands bs q p.0).1, all_kept bs qs p.1)
 
   -- what is kept passes
-  all_passing : (qs : List ℕ) (ss : List Stmt) → StmtsAt f qs ss → All (StmtKept (kinds c) c.declarations) ss → HasRoom ss → all_pass f c qs ≡ true
+  all_passing : (qs : List ℕ) (ss : List Stmt) → StmtsAt f qs ss → AllByRecursion (StmtKept (kinds c) c.declarations) ss → HasRoom ss → all_pass f c qs ≡ true
   all_passing [] [] a k r = refl
   all_passing [] (s ∷ ss) a k r = absurd a
   all_passing (q ∷ qs) [] a k r = absurd a
@@ -99,7 +100,7 @@ sound_stands f c e rows bs short h =
       stands = record { short = short; places = all_stand f c bs (places_of e.left) r.0; kept = all_kept f c bs (places_of e.left) r.0; room = room_from (left_in f e.left) r.1 };
     }
 
-pub kept_sound : (f : List ℕ) (c : Class) (e : Entry) (rows : List Row) (ss : List Stmt) → e.variables ≡ length c.variables → map kind_of (values_of rows) ≡ kinds c → StmtsAt f (places_of e.left) ss → All (StmtKept (kinds c) c.declarations) ss → HasRoom ss → of_class f c e rows ≡ true
+pub kept_sound : (f : List ℕ) (c : Class) (e : Entry) (rows : List Row) (ss : List Stmt) → e.variables ≡ length c.variables → map kind_of (values_of rows) ≡ kinds c → StmtsAt f (places_of e.left) ss → AllByRecursion (StmtKept (kinds c) c.declarations) ss → HasRoom ss → of_class f c e rows ≡ true
 kept_sound f c e rows ss n k a h r =
     and_true (eqb e.variables (length c.variables)) _ (eq-eqb e.variables (length c.variables) n)
     (and_true (same_kinds (map kind_of (values_of rows)) (kinds c)) _ (subst (λ js. same_kinds js (kinds c) ≡ true) (sym k) (same_kinds_refl (kinds c)))

@@ -1,9 +1,9 @@
 // What the processes of a table offer.
 ghost use Rattle.std.specs.Prelude.{◌≡◌, ◌+◌, ◌*◌, ◌≤◌, [], map, length, None, slice_index_or};
+ghost use Rattle.std.specs.List.{AllByRecursion};
 ghost use Rattle.values.specs.Kinds.{kind_number};
 ghost use Rattle.values.specs.Values.{integer, kind_of};
 ghost use Rattle.commands.specs.ByteLists.{Bytes};
-ghost use Rattle.admission.specs.Conditions.{All};
 ghost use Rattle.processes.specs.Evaluation.{values_of};
 ghost use Rattle.processes.specs.Fronts.{internal};
 ghost use Rattle.processes.specs.Found.{Answers, action_of};
@@ -171,7 +171,7 @@ pub fn put_offers(
     requires sound { SoundTable file.now classes table.now count }
     requires room { length (items out.old) + 8 * count ≤ room_of out.old }
     ensures grown { Grown out.old out.new (map offer_of (offers_from 0 (processes_in file.now table.now count))) }
-    ensures held { All Holdable (offers_from 0 (processes_in file.now table.now count)) }
+    ensures held { AllByRecursion Holdable (offers_from 0 (processes_in file.now table.now count)) }
     ensures few { length (offers_from 0 (processes_in file.now table.now count)) ≤ 64 }
     ensures bytes { Bytes file.now }
 {

@@ -1,7 +1,7 @@
 use Rattle.std.proofs.Common.{◌≡◌, ◌+◌, ◌*◌, ◌≤◌, true, cond, leb, List, [], ◌++◌, map, length, sym, refl, ap, ◌∙◌, subst, arith}
+use Rattle.std.specs.List.{AllByRecursion}
 use Rattle.std.proofs.lemmas.Bool.{le-leb, lt-leb}
 use Rattle.commands.specs.ByteLists.{Bytes}
-use Rattle.admission.specs.Conditions.{All}
 use Rattle.records.specs.Lists.{items, room_of, Room}
 use Rattle.listing.specs.declared.offer.Offer.{Offer}
 use Rattle.listing.specs.Offers.{offer_of, listed, Holdable}
@@ -18,11 +18,11 @@ use Rattle.models.proofs.model.Model.list.Goals as goal
 -- the steps listed from the offers that were gathered
 all-steps : (m : Model) (f : List _) (none all gathered : List Offer)
     → f ≡ bytes_of m → none ≡ [] → gathered ≡ none ++ map offer_of (offers_from 0 (processes_in f m.table m.count)) → all ≡ gathered
-    → Bytes f → All Holdable (offers_from 0 (processes_in f m.table m.count))
+    → Bytes f → AllByRecursion Holdable (offers_from 0 (processes_in f m.table m.count))
     → listed m.arrivals.channels all ≡ steps (model_of m)
 all-steps m f none all gathered e n g a bs h =
     let now : all ≡ map offer_of (offers (model_of m)) = a ∙ g ∙ (λ i. n i ++ map offer_of (offers_from 0 (processes_in (e i) m.table m.count))) in
-    ap (listed m.arrivals.channels) now ∙ lists_steps m (subst Bytes e bs) (subst (λ x. All Holdable (offers_from 0 (processes_in x m.table m.count))) e h)
+    ap (listed m.arrivals.channels) now ∙ lists_steps m (subst Bytes e bs) (subst (λ x. AllByRecursion Holdable (offers_from 0 (processes_in x m.table m.count))) e h)
 
 pub put-offers-requires : goal.put-offers-requires
 put-offers-requires c =
