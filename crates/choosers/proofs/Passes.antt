@@ -1,5 +1,5 @@
 -- Rotation in one pass over the steps.
-use Rattle.std.proofs.Common.{◌≡◌, ℕ, zero, suc, ◌+◌, ◌-◌, ◌%◌, ◌<◌, ◌≤◌, min, Bool, true, false, cond, ◌&&◌, eqb, ltb, ◌⊎◌, [], ◌∷◌, length, get_or, Some, None, Option, sym, refl, ap, ◌∙◌, subst, ⊎_elim, le_refl, arith}
+use Rattle.std.proofs.Common.{◌≡◌, ℕ, zero, suc, ◌+◌, ◌%◌, ◌<◌, ◌≤◌, min, Bool, true, false, cond, ◌&&◌, eqb, ltb, [], ◌∷◌, length, get_or, Some, None, Option, sym, refl, ap, ◌∙◌, subst, ⊎_elim, le_refl, arith}
 use Rattle.std.proofs.lemmas.Bool.{cond-true, cond-false, cond_both, eq-eqb, eqb-true, or_cases, or_left, or_right, and_from, and_parts, lt-ltb, le-ltb, ltb-true, ltb-false, cases_lt, cases_Bool}
 use Rattle.records.specs.declared.step.Step.{Step}
 use Rattle.records.specs.Steps.{has, no_step}
@@ -8,7 +8,8 @@ use Rattle.choosers.specs.Fairness.{some_has}
 use Rattle.choosers.specs.Firsts.{first, first_from}
 use Rattle.choosers.specs.Rotations.{nearest, ahead, reach, away, behind, rotation_pick, rotation_next}
 use Rattle.choosers.specs.FirstsLemmas.{found_first}
-use Rattle.choosers.specs.RotationsLemmas.{Nearest, near, turned, stayed}
+use Rattle.choosers.specs.RotationsLemmas.{Nearest, near}
+use Rattle.choosers.proofs.Rotations.{turned, stayed}
 
 -- the best of the first i steps
 pub record Best (c : ℕ) (q : Question) (i at best : ℕ) : Type 0 where

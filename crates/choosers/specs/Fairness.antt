@@ -1,6 +1,6 @@
 -- When picks are fair, and what follows for a process that waits.
 use Rattle.std.specs.Prelude.{◌≡◌, ℕ, ◌+◌, ◌<◌, ◌≤◌, Bool, true, false, ◌||◌, List, [], ◌∷◌, ◌++◌, length, slice_index_or}
-use Rattle.std.specs.List.{AllByRecursion as All}
+use Rattle.std.specs.List.{AllByRecursion}
 use Rattle.records.specs.declared.step.Step.{Step}
 use Rattle.records.specs.Steps.{has, no_step}
 use Rattle.choosers.specs.Meanings.{Question, Later, Picker, after}
@@ -20,7 +20,7 @@ Numbered s = (p : ℕ) → has p s ≡ true → p < 8
 
 -- a proper question has a step, and no process from 8 on
 abbrev pub Proper : Question → Type 0
-Proper q = (0 < length q) × All Numbered q
+Proper q = (0 < length q) × AllByRecursion Numbered q
 
 -- every wait of a process 0 to 7 is from 0 to B
 abbrev pub Within : ℕ → (ℕ → ℕ) → Type 0
@@ -33,8 +33,8 @@ Lowers w w' q n = (p : ℕ) → p < 8 → some_has p q ≡ true → has p (slice
 -- fair picks, by the waits w of bound B, in answer to proper questions
 pub record Fair (B : ℕ) (f : Picker) (w : Waits) : Type 0 where
   pub below : (past : List Question) (q : Question) → 0 < length q → f past q < length q
-  pub within : (past : List Question) → All Proper past → Within B (w past)
-  pub falls : (past : List Question) → All Proper past → (q : Question) → Proper q → Lowers (w past) (w (past ++ q ∷ [])) q (f past q)
+  pub within : (past : List Question) → AllByRecursion Proper past → Within B (w past)
+  pub falls : (past : List Question) → AllByRecursion Proper past → (q : Question) → Proper q → Lowers (w past) (w (past ++ q ∷ [])) q (f past q)
 
 -- process p is in one of the steps picked in answer to these questions, one after the other
 abbrev pub served : ℕ → Picker → List Question → Bool
@@ -44,7 +44,7 @@ served p f (q ∷ qs) = has p (slice_index_or q (f [] q) no_step) || served p (a
 -- a process in some closed step at each of B + 1 successive picks is in one of the steps picked
 abbrev pub Serves : ℕ → Picker → Type 0
 Serves B f =
-    (qs : List Question) → length qs ≡ B + 1 → All Proper qs → (p : ℕ) → p < 8 → All (λ q. some_has p q ≡ true) qs →
+    (qs : List Question) → length qs ≡ B + 1 → AllByRecursion Proper qs → (p : ℕ) → p < 8 → AllByRecursion (λ q. some_has p q ≡ true) qs →
     served p f qs ≡ true
 
 -- fair picks do so

@@ -1,7 +1,7 @@
 -- Hold as the code does it, and that it is fair over what is fair.
 use Rattle.std.specs.Prelude.{◌≡◌, ℕ, zero, suc, ◌+◌, ◌-◌, ◌*◌, ◌<◌, ◌≤◌, Bool, true, false, cond, List, [], ◌∷◌, ◌++◌, length, Some, None, Option, ◌==◌, slice_index_or, refl}
 use Rattle.std.proofs.Common.{arith, mul-le-mul_left, mul-suc}
-use Rattle.std.specs.List.{AllByRecursion as All}
+use Rattle.std.specs.List.{AllByRecursion}
 use Rattle.std.proofs.lemmas.Bool.{cond-false, cond_both, ne_eqb, both_ways}
 use Rattle.records.specs.Steps.{has, internal_of, no_step}
 use Rattle.choosers.specs.Meanings.{Question, Picker, after, when_empty}
@@ -55,7 +55,7 @@ module _ (K : ℕ) where
       (hold_picks past (after m x) K (keeps m x) (λ y. f (x ∷ y)) q h)
       (hold_picks past m left kept f q h)
 
-  hold_within : (B : ℕ) (past : List Question) (m : Picker) (w : Waits) (left kept : ℕ) → Fair B m w → left ≤ K → All Proper past → Within ((K + 1) * B + K) (hold_waits K m w left kept past)
+  hold_within : (B : ℕ) (past : List Question) (m : Picker) (w : Waits) (left kept : ℕ) → Fair B m w → left ≤ K → AllByRecursion Proper past → Within ((K + 1) * B + K) (hold_waits K m w left kept past)
   hold_within B [] m w left kept f l _ = λ p h. let a = mul-le-mul_left (K + 1) (f.within [] tt p h) in omega arith
   hold_within B (q ∷ past) m w left kept f l (proper, rest) =
       turn_each left kept q _ _ _ (Within ((K + 1) * B + K))
@@ -66,7 +66,7 @@ module _ (K : ℕ) where
   lower : (a b left : ℕ) → a < b → (K + 1) * a + K < (K + 1) * b + left
   lower a b left h = let c = mul-le-mul_left (K + 1) h in let d = mul-suc (K + 1) a in omega arith
 
-  hold_falls : (B : ℕ) (past : List Question) (m : Picker) (w : Waits) (left kept : ℕ) → Fair B m w → All Proper past → (q : Question) → Proper q → Lowers (hold_waits K m w left kept past) (hold_waits K m w left kept (past ++ q ∷ [])) q (hold K m left kept past q)
+  hold_falls : (B : ℕ) (past : List Question) (m : Picker) (w : Waits) (left kept : ℕ) → Fair B m w → AllByRecursion Proper past → (q : Question) → Proper q → Lowers (hold_waits K m w left kept past) (hold_waits K m w left kept (past ++ q ∷ [])) q (hold K m left kept past q)
   hold_falls B [] m w left kept f _ q proper = λ p h a. go (length q == 0) (not_empty q proper.0) p h a (held left kept q) refl
     where
       go : (t : Bool) → t ≡ false → (p : ℕ) → p < 8 → some_has p q ≡ true → (o : Option ℕ) → held left kept q ≡ o → has p (slice_index_or q (cond t 0 (by_some o (λ i. i) (m [] q))) no_step) ≡ false → cond {A = ℕ → ℕ} t (λ r. (K + 1) * w [] r + left) (by_some {X = ℕ → ℕ} o (λ _. λ r. (K + 1) * w [] r + (left - 1)) (λ r. (K + 1) * w (q ∷ []) r + K)) p < (K + 1) * w [] p + left

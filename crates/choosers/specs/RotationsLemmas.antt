@@ -1,6 +1,6 @@
 -- Rotation is fair.
-use Rattle.std.specs.Prelude.{◌≡◌, ℕ, zero, suc, ◌+◌, ◌-◌, ◌%◌, ◌<◌, ◌≤◌, true, false, ◌≢◌, length, Some, None, Option, slice_index_or, refl}
-use Rattle.std.proofs.Common.{sym, ap, ◌∙◌, arith}
+use Rattle.std.specs.Prelude.{◌≡◌, ℕ, zero, suc, ◌+◌, ◌%◌, ◌<◌, ◌≤◌, true, false, ◌≢◌, length, Some, None, Option, slice_index_or, refl}
+use Rattle.std.proofs.Common.{ap, arith}
 use Rattle.std.proofs.lemmas.Bool.{both_ways}
 use Rattle.records.specs.Steps.{has, no_step}
 use Rattle.choosers.specs.Meanings.{Question}
@@ -10,7 +10,7 @@ use Rattle.choosers.specs.Rotations.{first_of, nearest, ahead, rotation_pick, ro
 use Rattle.choosers.specs.FirstsLemmas.{found_first, found_some}
 use Rattle.choosers.specs.FairnessLemmas.{Machine, fair_machine}
 
-first_is : (p : ℕ) (q : Question) (i : ℕ) → first (has p) q ≡ Some i → first_of p q ≡ i
+pub first_is : (p : ℕ) (q : Question) (i : ℕ) → first (has p) q ≡ Some i → first_of p q ≡ i
 first_is p q i e = ap (λ o. by_some o (λ k. k) 0) e
 
 ahead_next : (c r : ℕ) → c < 8 → r < 8 → c ≢ r → ahead c r ≡ ahead ((c + 1) % 8) r + 1
@@ -61,11 +61,3 @@ rotation_machine = record {
 
 pub rotation_fair : (c : ℕ) → c < 8 → Fair 7 (rotation c) (rotation_waits c)
 rotation_fair = fair_machine 7 rotation_pick rotation_next ahead (λ c. c < 8) rotation_machine
-
--- Rotation as the code does it
-
-pub turned : (c p i : ℕ) (q : Question) → nearest 8 c q ≡ Some p → first (has p) q ≡ Some i → (i ≡ rotation_pick c q) × ((p + 1) % 8 ≡ rotation_next c q)
-turned c p i q e f = (sym (ap (λ o. by_some o (λ r. first_of r q) 0) e ∙ first_is p q i f), sym (ap (λ o. by_some o (λ r. (r + 1) % 8) c) e))
-
-pub stayed : (c : ℕ) (q : Question) → nearest 8 c q ≡ None → (0 ≡ rotation_pick c q) × (c ≡ rotation_next c q)
-stayed c q e = (sym (ap (λ o. by_some o (λ r. first_of r q) 0) e), sym (ap (λ o. by_some o (λ r. (r + 1) % 8) c) e))

@@ -35,7 +35,7 @@ pub trait FairChooser: Chooser {
         ensures within { Within (bound self.new) (waits self.new []) }
         ensures lowers { Proper closed.now → Lowers (waits self.old []) (waits self.new []) closed.now result };
 
-    ghost never_declines: { (s : Self) → Self.Chooser.meaning s ≡ picking (picks s) };
+    ghost never_declines: { (s : Self) → Self.meaning s ≡ picking (picks s) };
 
     ghost fair: { (s : Self) → Fair (bound s) (picks s) (waits s) };
 }
@@ -47,5 +47,5 @@ pub fn fair_serves()
 
 // So it is under this chooser, from now on.
 pub fn serves_everyone<F: FairChooser>(f: &F)
-    ensures { Serves (bound f.now) (picks f.now) }
+    ensures { Serves (F.bound f.now) (F.picks f.now) }
 {}

@@ -2,6 +2,7 @@
 use Rattle.std.proofs.Common.{◌≡◌, ℕ, zero, suc, ◌<◌, true, false, List, [], ◌∷◌, length, get_or, drop, vec_items, codes, sym, refl, ap, ◌∙◌, subst, arith, Bor}
 use Rattle.std.proofs.lemmas.List.{get_or-map, length-map}
 use Rattle.std.proofs.lemmas.Bool.{both_ways}
+use Rattle.std.proofs.lemmas.Slice.Eq.{bytes_eq-Decides}
 use Rattle.std.specs.Str.{bytes_eq}
 use Rattle.rota.specs.declared.choice.Fair.{Fair}
 use Rattle.rota.specs.declared.choice.Fair.TheVariants.{Rotation, Seniority}
@@ -12,6 +13,13 @@ use Rattle.rota.specs.Words.{Number, NoNumber, texts}
 
 differ : (a b : List ℕ) → bytes_eq a a ≡ true → bytes_eq a b ≡ false → a ≡ b → ⊥
 differ a b t f e = both_ways _ f (ap (bytes_eq a) (sym e) ∙ t)
+
+-- what a test of two words tells
+pub same_word : (a b : List ℕ) → true ≡ bytes_eq a b → a ≡ b
+same_word a b e = (bytes_eq-Decides a b).0 (sym e)
+
+pub other_word : (a b : List ℕ) → false ≡ bytes_eq a b → a ≡ b → ⊥
+other_word a b e p = both_ways _ (sym e) ((bytes_eq-Decides a b).1 p)
 
 script_fair : (f : Fair) → codes "script" ≡ fair_name f → ⊥
 script_fair Rotation = differ _ _ refl refl

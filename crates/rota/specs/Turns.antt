@@ -1,5 +1,5 @@
 -- The turns of a rota.
-use Rattle.std.specs.Prelude.{ℕ, ◌+◌, ◌-◌, ◌^◌, min, cond, not, ◌&&◌, List, [], ◌∷◌, ◌++◌, get_or, Some, None, codes, decimal, Option, slice_index, slice_index_or}
+use Rattle.std.specs.Prelude.{ℕ, ◌+◌, ◌-◌, ◌^◌, min, cond, not, ◌&&◌, List, [], ◌∷◌, ◌++◌, Some, None, codes, decimal, Option, slice_index, slice_index_or}
 use Rattle.records.specs.declared.step.Step.{Step}
 use Rattle.records.specs.Steps.{has, no_step, spaced, step_text}
 use Rattle.choosers.specs.Meanings.{Question, when_empty}
@@ -51,7 +51,7 @@ turn_of o t w q = when_empty q None (Some (record { turn = one_more t; outcome =
 
 abbrev pub waiting_text : Waiting → List ℕ
 waiting_text w =
-    let at : ℕ → ℕ = λ p. get_or w.turns p 0 in
+    let at : ℕ → ℕ = λ p. slice_index w.turns p in
     spaced (at 0) (spaced (at 1) (spaced (at 2) (spaced (at 3) (spaced (at 4) (spaced (at 5) (spaced (at 6) (decimal (at 7))))))))
 
 abbrev pub picked_text : PickedRow → List ℕ

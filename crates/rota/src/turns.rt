@@ -58,10 +58,10 @@ impl<C: Chooser> Rota<C> {
 
     // One turn over these closed steps; none, and nothing altered, where there is no step.
     pub fn turn(&mut self, closed: &[Step]) -> Option<Turn>
-        ensures answer { result ≡ turn_of (C.Chooser.meaning self.old.chooser [] closed.now) self.old.turns self.old.waiting closed.now }
+        ensures answer { result ≡ turn_of (C.meaning self.old.chooser [] closed.now) self.old.turns self.old.waiting closed.now }
         ensures turns { self.new.turns ≡ turns_after self.old.turns closed.now }
-        ensures waiting { self.new.waiting ≡ waiting_next (C.Chooser.meaning self.old.chooser [] closed.now) self.old.waiting closed.now }
-        ensures chooser { C.Chooser.meaning self.new.chooser ≡ when_empty closed.now (C.Chooser.meaning self.old.chooser) (after (C.Chooser.meaning self.old.chooser) closed.now) }
+        ensures waiting { self.new.waiting ≡ waiting_next (C.meaning self.old.chooser [] closed.now) self.old.waiting closed.now }
+        ensures chooser { C.meaning self.new.chooser ≡ when_empty closed.now (C.meaning self.old.chooser) (after (C.meaning self.old.chooser) closed.now) }
     {
         if closed.len() == 0 {
             return None;

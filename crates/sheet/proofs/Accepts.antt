@@ -1,5 +1,5 @@
 -- The check accepts exactly the prefix forms of the trees that keep the rules.
-use Rattle.std.proofs.Common.{◌≡◌, ℕ, zero, suc, ◌+◌, ◌-◌, ◌<◌, ◌≤◌, max, Bool, true, false, cond, ltb, List, [], ◌∷◌, ◌++◌, map, length, drop, Some, None, Ok, Err, Option, sym, refl, ap, ◌∙◌, subst, append_assoc, append-nil, add-one, arith, ltb-false, le-ltb}
+use Rattle.std.proofs.Common.{◌≡◌, ℕ, zero, suc, ◌+◌, ◌-◌, ◌≤◌, Bool, true, false, cond, ltb, List, [], ◌∷◌, ◌++◌, map, length, drop, Some, None, Ok, Err, Option, sym, refl, ap, ◌∙◌, subst, append_assoc, append-nil, arith, ltb-false, le-ltb}
 use Rattle.std.proofs.lemmas.List.{drop_all, length-append, map-append}
 use Rattle.std.specs.List.{slice_get}
 use Rattle.values.specs.declared.kind.Kind.{Kind}
@@ -10,7 +10,7 @@ use Rattle.values.specs.Kinds.{awaited, same_kind}
 use Rattle.values.specs.Ops.{part_kind, gives}
 use Rattle.values.specs.Values.{kind_of}
 use Rattle.sheet.specs.declared.fault.Expected.{Expected}
-use Rattle.sheet.specs.declared.fault.Expected.TheVariants.{FewerLevels, End as EndE}
+use Rattle.sheet.specs.declared.fault.Expected.TheVariants.{End as EndE}
 use Rattle.sheet.specs.declared.word.Term.{Term}
 use Rattle.sheet.specs.declared.word.Term.TheVariants.{Value, Not, Binary}
 use Rattle.sheet.specs.declared.word.Word.{Word}

@@ -1,5 +1,5 @@
 -- The tree that stands at a place, by the term there.
-use Rattle.std.proofs.Common.{◌≡◌, ℕ, ◌+◌, true, false, List, [], ◌∷◌, ◌++◌, Some, None, Option, sym, refl, ap, ◌∙◌, subst, append_assoc, append-nil, arith}
+use Rattle.std.proofs.Common.{◌≡◌, ℕ, ◌+◌, true, false, List, [], ◌∷◌, ◌++◌, Some, None, sym, refl, ap, ◌∙◌, subst, append_assoc, append-nil, arith}
 use Rattle.std.specs.List.{slice_get}
 use Rattle.values.specs.declared.op.Op.{Op}
 use Rattle.values.specs.declared.row.Row.{Row}
@@ -12,7 +12,7 @@ use Rattle.sheet.specs.declared.word.Term.{Term}
 use Rattle.sheet.specs.declared.word.Term.TheVariants.{Value, Not, Binary}
 use Rattle.sheet.specs.declared.word.Word.{Word}
 use Rattle.sheet.specs.declared.word.Word.TheVariants.{Known}
-use Rattle.sheet.specs.Trees.{Tree, leaf, negation, operation, Stands, Worked, worth, lines, size}
+use Rattle.sheet.specs.Trees.{Tree, leaf, negation, operation, Stands, Worked, worth, size}
 
 -- a value comes back from its row
 pub row_back : (v : Val) → value_of_row (row_of v) ≡ v

@@ -1,5 +1,5 @@
 -- The check of an expression, one term at a time.
-use Rattle.std.proofs.Common.{◌≡◌, ℕ, zero, suc, ◌+◌, ◌-◌, ◌<◌, List, IsErrAnd, IfOk, Some, None, Ok, Err, Option, sym, refl, ap, ◌∙◌, arith}
+use Rattle.std.proofs.Common.{◌≡◌, ℕ, zero, suc, ◌+◌, ◌-◌, ◌<◌, List, IsErrAnd, IfOk, Some, Ok, Err, Option, ap, ◌∙◌, arith}
 use Rattle.std.specs.List.{slice_get}
 use Rattle.values.specs.declared.kind.Kind.{Kind}
 use Rattle.values.specs.declared.kind.Kind.TheVariants.{Boolean}
@@ -12,7 +12,7 @@ use Rattle.sheet.specs.declared.fault.Fault.{Fault}
 use Rattle.sheet.specs.declared.word.Term.{Term}
 use Rattle.sheet.specs.declared.word.Term.TheVariants.{Value, Not, Binary}
 use Rattle.sheet.specs.declared.word.Word.{Word}
-use Rattle.sheet.specs.Checks.{check, parts, known, ask, fault, Checked, End, ◌>>=◌, ◌>>◌}
+use Rattle.sheet.specs.Checks.{check, parts, known, ask, fault, Checked, End, ◌>>◌}
 use Rattle.sheet.specs.Faults.{expected_of}
 use Rattle.sheet.specs.Words.{term_kind}
 

@@ -4,7 +4,6 @@ use Rattle.std.specs.Str.{bytes_eq}
 use Rattle.values.specs.declared.kind.Kind.{Kind}
 use Rattle.values.specs.declared.kind.Kind.TheVariants.{Boolean}
 use Rattle.values.specs.declared.op.Op.{Op}
-use Rattle.values.specs.declared.row.Row.{Row}
 use Rattle.values.specs.declared.value.TextFault.{TextFault}
 use Rattle.values.specs.declared.value.TextFault.TheVariants.{NotAValue, OutOfRange as OutOfRangeF}
 use Rattle.values.specs.Ops.{gives, op_of_name}

@@ -1,4 +1,4 @@
-use Rattle.choosers.specs.FairnessLemmas.{serves}
+use Rattle.choosers.proofs.Fairness.{serves}
 use Rattle.choosers.proofs.chooser.fair_serves.Goals as goal
 
 pub returns : goal.returns

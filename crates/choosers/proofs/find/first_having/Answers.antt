@@ -1,6 +1,6 @@
 use Rattle.std.proofs.Common.{sym, ◌∙◌}
 use Rattle.records.specs.Steps.{has}
-use Rattle.choosers.specs.FirstsLemmas.{first_here, first_more, first_end}
+use Rattle.choosers.proofs.Firsts.{first_here, first_more, first_end}
 use Rattle.choosers.proofs.find.first_having.Goals as goal
 
 pub returns-then-involves : goal.returns-then-involves

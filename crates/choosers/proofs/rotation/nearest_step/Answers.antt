@@ -8,7 +8,7 @@ loop-i-preserved c =
     let l = c.loop-i in
     let e = c.nearer-best.ensures in
     subst₂ (λ a b. Best c.args.cursor q (l.i + 1) a b) (sym e.step) (sym e.distance)
-    (best_next c.args.cursor q l.i l.best.step l.best.distance c.away-of.result l.invariant c.away-of.ensures)
+    (best_next c.args.cursor q l.i l.best.step l.best.distance c.away_of.result l.invariant c.away_of.ensures)
 
 pub returns : goal.returns
 returns c =

@@ -1,7 +1,7 @@
 use Rattle.std.proofs.Common.{sym, ◌∙◌}
 use Rattle.records.specs.Steps.{has}
 use Rattle.choosers.specs.FirstsLemmas.{found_first}
-use Rattle.choosers.specs.SenioritiesLemmas.{senior_here, senior_more, senior_end}
+use Rattle.choosers.proofs.Seniorities.{senior_here, senior_more, senior_end}
 use Rattle.choosers.proofs.seniority.frontmost.Goals as goal
 
 pub returns-in-Some : goal.returns-in-Some

@@ -15,7 +15,7 @@ pub loop-word-preserved : goal.loop-word-preserved
 loop-word-preserved c =
     let l = c.loop-word in
     numbers_more c.args.words.now l.word-index (vec_items l.numbers) l.invariant _ c.in-Some.n (vec_items c.push.new.self) c.loop-word-test.true c.in-Some.ensures
-    (pushed c.push.result (vec_items l.numbers) (vec_items c.push.new.self) c.in-Some.n c.if-is-err.ensures.value c.push.ensures.items)
+    (pushed c.push.result (vec_items l.numbers) (vec_items c.push.new.self) c.in-Some.n c.if-is_err.ensures.value c.push.ensures.items)
 
 pub returns : goal.returns
 returns c = (texts c.args.words.now, refl, numbers_all c.args.words.now c.loop-word.word-index (vec_items c.loop-word.numbers) c.loop-word.invariant c.loop-word-test.false)

@@ -10,5 +10,5 @@ returns-then-words-ne7 c = record { exact = λ s h. c.if-words-ne7.true (sym (le
 
 pub returns : goal.returns
 returns c =
-    let e = seven _ c.args.words.now c.step-of.result c.if-words-ne7.false c.step-of.ensures in
-    record { exact = e; proper = proper (texts c.args.words.now) c.step-of.result e }
+    let e = seven _ c.args.words.now c.step_of.result c.if-words-ne7.false c.step_of.ensures in
+    record { exact = e; proper = proper (texts c.args.words.now) c.step_of.result e }

@@ -13,8 +13,8 @@ returns-in_err-front c = let p = err_from_is_err_and c.from_residual-in_err-fron
 pub returns-in_err-partner : goal.returns-in_err-partner
 returns-in_err-partner c = let p = err_from_is_err_and c.from_residual-in_err-partner.result c.from_residual-in_err-partner.ensures.1 in rw p.1 (λ s h. c.in_err-partner.ensures s.partner h.partner)
 
-pub returns-in_err-partner-front : goal.returns-in_err-partner-front
-returns-in_err-partner-front c = let p = err_from_is_err_and c.from_residual-in_err-partner-front.result c.from_residual-in_err-partner-front.ensures.1 in rw p.1 (λ s h. c.in_err-partner-front.ensures s.partner_front h.partner_front)
+pub returns-in_err-partner_front : goal.returns-in_err-partner_front
+returns-in_err-partner_front c = let p = err_from_is_err_and c.from_residual-in_err-partner_front.result c.from_residual-in_err-partner_front.ensures.1 in rw p.1 (λ s h. c.in_err-partner_front.ensures s.partner_front h.partner_front)
 
 pub returns-in_err-channel : goal.returns-in_err-channel
 returns-in_err-channel c = let p = err_from_is_err_and c.from_residual-in_err-channel.result c.from_residual-in_err-channel.ensures.1 in rw p.1 (λ s h. c.in_err-channel.ensures s.channel h.channel)

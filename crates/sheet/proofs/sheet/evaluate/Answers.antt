@@ -1,7 +1,7 @@
-use Rattle.std.proofs.Common.{◌≡◌, List, IsErrAnd, Ok, Err, Result, sym, ap, ◌∙◌, subst}
+use Rattle.std.proofs.Common.{◌≡◌, List, IsErrAnd, Ok, Err, Result, sym, ◌∙◌, subst}
 use Rattle.sheet.specs.declared.sheet.Sheet.{Sheet}
 use Rattle.sheet.specs.declared.sheet.Stop.{Stop}
-use Rattle.sheet.specs.declared.sheet.Stop.TheVariants.{Memory, Wrong}
+use Rattle.sheet.specs.declared.sheet.Stop.TheVariants.{Memory}
 use Rattle.sheet.specs.declared.word.Word.{Word}
 use Rattle.sheet.specs.Sheets.{Answered}
 use Rattle.sheet.proofs.Accepts.{reads_expressions}
@@ -17,6 +17,6 @@ returns-in_err-words c = record { answer = out-of-memory _ _ c.from_residual.ens
 pub returns : goal.returns
 returns c =
     record {
-      answer = subst (λ ws. Answered ws c.worked-out.result) (c.deref.ensures.value ∙ c.in_ok-words.ensures) c.worked-out.ensures;
+      answer = subst (λ ws. Answered ws c.worked_out.result) (c.deref.ensures.value ∙ c.in_ok-words.ensures) c.worked_out.ensures;
       law = reads_expressions;
     }

@@ -1,4 +1,4 @@
-use Rattle.std.proofs.Common.{◌≡◌, [], ◌∷◌, ◌++◌, take, sym, ap, ◌∙◌}
+use Rattle.std.proofs.Common.{[], ◌∷◌, ◌++◌, take, sym, ap, ◌∙◌}
 use Rattle.std.proofs.lemmas.List.{map_more, take_all}
 use Rattle.sheet.specs.Sheets.{words_of}
 use Rattle.sheet.specs.Words.{word_of}
@@ -9,8 +9,8 @@ loop-text-preserved c =
     let texts = c.args.texts.now in
     let i = c.loop-text.text-index in
     c.in_ok-push.ensures.items
-    ∙ ap (λ l. l ++ c.read-word.result ∷ []) c.loop-text.invariant
-    ∙ ap (λ w. words_of (take i texts) ++ w ∷ []) c.read-word.ensures
+    ∙ ap (λ l. l ++ c.read_word.result ∷ []) c.loop-text.invariant
+    ∙ ap (λ w. words_of (take i texts) ++ w ∷ []) c.read_word.ensures
     ∙ sym (map_more (λ t. word_of t.now) texts i _ c.loop-text-test.true)
 
 pub returns : goal.returns

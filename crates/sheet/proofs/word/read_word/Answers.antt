@@ -1,4 +1,4 @@
-use Rattle.std.proofs.Common.{◌≡◌, codes, ◌∙◌}
+use Rattle.std.proofs.Common.{codes, ◌∙◌}
 use Rattle.values.proofs.Texts.{not_same}
 use Rattle.sheet.proofs.word.read_word.Goals as goal
 

@@ -1,43 +1,43 @@
-use Rattle.std.proofs.Common.{◌≡◌, ℕ, ◌+◌, is_ok, vec_items, sym, refl, ap, ◌∙◌, subst, arith}
+use Rattle.std.proofs.Common.{is_ok, vec_items, sym, ap, ◌∙◌, subst, arith}
 use Rattle.std.proofs.ResultArms.{chosen}
 use Rattle.values.specs.Rows.{row_of}
 use Rattle.sheet.proofs.Nodes.{root, stands_value, stands_not, stands_binary, value_worked, not_worked, binary_worked}
-use Rattle.sheet.specs.Trees.{Tree, Stands, Worked}
+use Rattle.sheet.specs.Trees.{Stands}
 use Rattle.sheet.proofs.work.+work.Goals as goal
 
-pub term-at-requires : goal.term-at-requires
-term-at-requires t c = root _ _ c.requires.0 c.requires.1
+pub term_at-requires : goal.term_at-requires
+term_at-requires t c = root _ _ c.requires.0 c.requires.1
 
 pub work-requires : goal.work-requires
 work-requires t c =
     let p = stands_not _ _ c.in-Not.ensures.exact c.requires.0 c.requires.1 in
-    (omega (arith, c.decreases, c.term-at.ensures.inside), (p.0, p.2))
+    (omega (arith, c.decreases, c.term_at.ensures.inside), (p.0, p.2))
 
 pub work-requires-in-Binary : goal.work-requires-in-Binary
 work-requires-in-Binary t c =
     let p = stands_binary _ _ _ c.in-Binary.ensures.exact c.requires.0 c.requires.1 in
-    (omega (arith, c.decreases, c.term-at.ensures.inside), (p.0, p.3))
+    (omega (arith, c.decreases, c.term_at.ensures.inside), (p.0, p.3))
 
 pub work-requires-in-Binary-2 : goal.work-requires-in-Binary-2
 work-requires-in-Binary-2 t c =
     let p = stands_binary _ _ _ c.in-Binary.ensures.exact c.requires.0 c.requires.1 in
-    let w = c.in_ok-first.ensures p.0 p.3 in
-    (omega (arith, c.decreases, c.term-at.ensures.inside, w.end-is), (p.1, subst (λ n. Stands c.args.words.now n p.1) (sym w.end-is) p.4))
+    let w = c.in_ok-first-in-Binary.ensures p.0 p.3 in
+    (omega (arith, c.decreases, c.term_at.ensures.inside, w.end_is), (p.1, subst (λ n. Stands c.args.words.now n p.1) (sym w.end_is) p.4))
 
 pub returns-in-Value : goal.returns-in-Value
 returns-in-Value t c u s =
     value_worked u c.in-Value.row _ _ _ (stands_value _ _ _ c.in-Value.ensures.exact u s) (c.of.ensures.exact ∙ ap row_of c.value.ensures.exact)
 
-pub returns-in_ok-push : goal.returns-in_ok-push
-returns-in_ok-push t c u s =
+pub returns-in_ok-push-in-Not : goal.returns-in_ok-push-in-Not
+returns-in_ok-push-in-Not t c u s =
     let p = stands_not _ _ c.in-Not.ensures.exact u s in
-    not_worked u p.0 _ _ c.in_ok-part.part.0 c.negated-result.result _ (vec_items c.work.new.lines) _ p.1 (c.in_ok-part.ensures p.0 p.2) c.negated-result.ensures
-    (chosen _ _ _ _ c.push.ensures.items (ap is_ok c.in_ok-push.was))
+    not_worked u p.0 _ _ c.in_ok-part-in-Not.part.0 c.negated-result.result _ (vec_items c.work.new.lines) _ p.1 (c.in_ok-part-in-Not.ensures p.0 p.2) c.negated-result.ensures
+    (chosen _ _ _ _ c.push.ensures.items (ap is_ok c.in_ok-push-in-Not.was))
 
-pub returns-in_ok-push-2 : goal.returns-in_ok-push-2
-returns-in_ok-push-2 t c u s =
+pub returns-in_ok-push-in-Binary : goal.returns-in_ok-push-in-Binary
+returns-in_ok-push-in-Binary t c u s =
     let p = stands_binary _ _ _ c.in-Binary.ensures.exact u s in
-    let w = c.in_ok-first.ensures p.0 p.3 in
-    let v = c.in_ok-second.ensures p.1 (subst (λ n. Stands c.args.words.now n p.1) (sym w.end-is) p.4) in
+    let w = c.in_ok-first-in-Binary.ensures p.0 p.3 in
+    let v = c.in_ok-second-in-Binary.ensures p.1 (subst (λ n. Stands c.args.words.now n p.1) (sym w.end_is) p.4) in
     binary_worked u c.in-Binary.op p.0 p.1 _ _ _ _ _ _ _ _ _ _ p.2 w v c.applied-result.ensures
-    (chosen _ _ _ _ c.push-in-Binary.ensures.items (ap is_ok c.in_ok-push-2.was))
+    (chosen _ _ _ _ c.push-in-Binary.ensures.items (ap is_ok c.in_ok-push-in-Binary.was))

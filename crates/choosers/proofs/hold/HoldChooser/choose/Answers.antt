@@ -1,6 +1,6 @@
 use Rattle.std.proofs.Common.{[]}
 use Rattle.choosers.specs.Holds.{hold}
-use Rattle.choosers.specs.FairnessLemmas.{chosen}
+use Rattle.choosers.proofs.Fairness.{chosen}
 use Rattle.choosers.specs.HoldsLemmas.{hold_picks}
 use Rattle.choosers.proofs.hold.HoldChooser.choose.Goals as goal
 

@@ -1,6 +1,6 @@
 use Rattle.std.proofs.Common.{◌+◌, ◌*◌, [], ap₂}
 use Rattle.choosers.specs.Holds.{hold, hold_waits}
-use Rattle.choosers.specs.FairnessLemmas.{fair_below, fair_lowers}
+use Rattle.choosers.proofs.Fairness.{fair_below, fair_lowers}
 use Rattle.choosers.specs.HoldsLemmas.{hold_fair}
 use Rattle.choosers.proofs.hold.HoldFairChooser.pick.Goals as goal
 

@@ -1,6 +1,6 @@
 use Rattle.std.proofs.Common.{ap}
 use Rattle.choosers.specs.Rotations.{rotation, rotation_waits}
-use Rattle.choosers.specs.FairnessLemmas.{chosen, fair_below}
+use Rattle.choosers.proofs.Fairness.{chosen, fair_below}
 use Rattle.choosers.specs.RotationsLemmas.{rotation_fair}
 use Rattle.choosers.proofs.rotation.RotationChooser.choose.Goals as goal
 

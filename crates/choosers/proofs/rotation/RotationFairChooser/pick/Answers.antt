@@ -1,6 +1,6 @@
 use Rattle.std.proofs.Common.{[], refl, ap}
 use Rattle.choosers.specs.Rotations.{rotation, rotation_waits}
-use Rattle.choosers.specs.FairnessLemmas.{fair_below, fair_lowers}
+use Rattle.choosers.proofs.Fairness.{fair_below, fair_lowers}
 use Rattle.choosers.specs.RotationsLemmas.{rotation_fair}
 use Rattle.choosers.proofs.rotation.RotationFairChooser.pick.Goals as goal
 

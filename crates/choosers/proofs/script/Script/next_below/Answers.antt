@@ -6,4 +6,4 @@ pub returns-then-self : goal.returns-then-self
 returns-then-self c = used_up c.args.self.now.numbers.now c.args.self.now.at c.args.closed.now c.if-self.true
 
 pub returns : goal.returns
-returns c = c.below-count.ensures ∙ not_used_up c.args.self.now.numbers.now c.args.self.now.at c.args.closed.now c.if-self.false
+returns c = c.below_count.ensures ∙ not_used_up c.args.self.now.numbers.now c.args.self.now.at c.args.closed.now c.if-self.false

@@ -3,8 +3,8 @@ use Rattle.choosers.specs.Scripts.{script}
 use Rattle.choosers.proofs.Scripts.{took, stood, one_on}
 use Rattle.choosers.proofs.script.ScriptChooser.choose.Goals as goal
 
-pub move-on-requires : goal.move-on-requires
-move-on-requires c =
+pub move_on-requires : goal.move_on-requires
+move_on-requires c =
     let s = c.args.self.now in
     let left = drop s.at s.numbers.now in
     (one_on s.numbers.now s.at (took left c.args.closed.now c.in-Some.n c.in-Some.ensures).some).0
@@ -12,7 +12,7 @@ move-on-requires c =
 pub returns-in-Some : goal.returns-in-Some
 returns-in-Some c =
     let s = c.args.self.now in
-    let e = c.move-on.ensures in
+    let e = c.move_on.ensures in
     let left = drop s.at s.numbers.now in
     let t = took left c.args.closed.now c.in-Some.n c.in-Some.ensures in
     record {

@@ -1,6 +1,6 @@
 use Rattle.std.proofs.Common.{ap}
 use Rattle.choosers.specs.Seniorities.{seniority, seniority_waits}
-use Rattle.choosers.specs.FairnessLemmas.{chosen, fair_below}
+use Rattle.choosers.proofs.Fairness.{chosen, fair_below}
 use Rattle.choosers.specs.SenioritiesLemmas.{seniority_fair}
 use Rattle.choosers.proofs.seniority.SeniorityChooser.choose.Goals as goal
 

@@ -1,6 +1,6 @@
 use Rattle.std.proofs.Common.{[], refl, ap}
 use Rattle.choosers.specs.Seniorities.{seniority, seniority_waits}
-use Rattle.choosers.specs.FairnessLemmas.{fair_below, fair_lowers}
+use Rattle.choosers.proofs.Fairness.{fair_below, fair_lowers}
 use Rattle.choosers.specs.SenioritiesLemmas.{seniority_fair}
 use Rattle.choosers.proofs.seniority.SeniorityFairChooser.pick.Goals as goal
 
