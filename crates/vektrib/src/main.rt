@@ -8,7 +8,7 @@ mod check;
 mod eval;
 mod hex;
 mod input;
-mod rota;
+mod serving;
 mod shell;
 mod show;
 

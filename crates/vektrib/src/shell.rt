@@ -1,7 +1,7 @@
 // The commands, by name.
 use crate::check::check;
 use crate::eval::eval;
-use crate::rota::rota_of;
+use crate::serving::rota_of;
 use crate::show::show_words;
 
 // What `help` prints.
