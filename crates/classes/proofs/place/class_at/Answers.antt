@@ -9,14 +9,14 @@ loop-i-init c d h =
     let all : c.args.class - 0 ≡ c.args.class = omega arith in
     subst (λ n. Ahead f 4 n d) (sym all) (ahead_start f c.args.class d (bytes_from f (λ i. omega (arith, (c.type_inv.file i).fits))) h)
 
-pub end-of-class-at-requires : goal.end-of-class-at-requires
-end-of-class-at-requires c = omega (arith, ahead_within _ _ _ _ (c.loop-i.invariant c.requires.0 c.requires.1))
+pub end_of_class-at-requires : goal.end_of_class-at-requires
+end_of_class-at-requires c = omega (arith, ahead_within _ _ _ _ (c.loop-i.invariant c.requires.0 c.requires.1))
 
 pub loop-i-preserved : goal.loop-i-preserved
-loop-i-preserved c d h = ahead_next _ _ _ _ _ d c.end-of-class-at.ensures c.loop-i-test.true (c.loop-i.invariant d h)
+loop-i-preserved c d h = ahead_next _ _ _ _ _ d c.end_of_class-at.ensures c.loop-i-test.true (c.loop-i.invariant d h)
 
-pub overflow-add-result : goal.overflow-add-result
-overflow-add-result c = omega (arith, ahead_within _ _ _ _ (c.loop-i.invariant c.requires.0 c.requires.1))
+pub overflow_add-result : goal.overflow_add-result
+overflow_add-result c = omega (arith, ahead_within _ _ _ _ (c.loop-i.invariant c.requires.0 c.requires.1))
 
 pub returns : goal.returns
 returns c d h =
