@@ -8,8 +8,8 @@ use Rattle.arrivals.proofs.travel.+climb.Goals as goal
 pub unreachable-requires : goal.unreachable-requires
 unreachable-requires t c = no_behaviour c.args.file.now c.args.at c.requires.stands.1 c.in_default.ensures.exact c.requires.stands.2.here
 
-pub processes-in-first-requires : goal.processes-in-first-requires
-processes-in-first-requires t c =
+pub processes_in-first-requires : goal.processes_in-first-requires
+processes_in-first-requires t c =
     let k = c.requires.stands.2 in
     let p = behaviour_here c.args.file.now c.args.at c.requires.stands.1 c.in-Par.is c.in-Some.ensures.exact k.here in
     (p.0, p.4, (first_kept _ _ _ _ _ _ p.2 p.4 k).few)
@@ -38,11 +38,11 @@ climb-requires-in-Rename t c =
     let p = behaviour_here c.args.file.now c.args.at c.requires.stands.1 c.in-Rename.is c.in-Some.ensures.exact k.here in
     (omega (arith, c.decreases, ap command_size c.in-Rename.is, c.in-Some.ensures.long), ((c.requires.stands.0, p.0, rename_kept _ _ _ _ _ _ _ p.1 p.2 k), c.requires.below))
 
-pub past-rename-requires : goal.past-rename-requires
-past-rename-requires t c =
+pub past_rename-requires : goal.past_rename-requires
+past_rename-requires t c =
     let k = c.requires.stands.2 in
     let p = behaviour_here c.args.file.now c.args.at c.requires.stands.1 c.in-Rename.is c.in-Some.ensures.exact k.here in
-    (target_kept _ _ _ _ _ _ _ p.1 k, c.climb-in-Rename.ensures.small)
+    record { to_bound = target_kept _ _ _ _ _ _ _ p.1 k; some = c.climb-in-Rename.ensures.small }
 
 pub returns-in-Proc : goal.returns-in-Proc
 returns-in-Proc t c =
@@ -56,7 +56,7 @@ returns-in-First t c =
     record {
       exact = λ u s.
           let p = behaviour_here c.args.file.now c.args.at u c.in-Par.is c.in-Some.ensures.exact s in
-          climb_first u p.0 p.1 p.2 _ (c.processes-in-first.ensures p.0 p.4) _ _ _ _ c.in-First.ensures (c.climb.ensures.exact p.0 p.4);
+          climb_first u p.0 p.1 p.2 _ (c.processes_in-first.ensures p.0 p.4) _ _ _ _ c.in-First.ensures (c.climb.ensures.exact p.0 p.4);
       small = c.climb.ensures.small;
     }
 
@@ -65,7 +65,7 @@ returns-in-Second t c =
     record {
       exact = λ u s.
           let p = behaviour_here c.args.file.now c.args.at u c.in-Par.is c.in-Some.ensures.exact s in
-          climb_second u p.0 p.1 p.2 _ (c.processes-in-first.ensures p.0 p.4) _ _ _ _ c.in-Second.ensures (c.climb-in-Second.ensures.exact p.1 p.5);
+          climb_second u p.0 p.1 p.2 _ (c.processes_in-first.ensures p.0 p.4) _ _ _ _ c.in-Second.ensures (c.climb-in-Second.ensures.exact p.1 p.5);
       small = c.climb-in-Second.ensures.small;
     }
 
