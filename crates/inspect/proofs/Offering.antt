@@ -6,7 +6,7 @@ use Rattle.values.specs.declared.row.Row.{Row}
 use Rattle.values.specs.Values.{kind_of}
 use Rattle.commands.specs.Trees.{Stmt, Declaration, Class}
 use Rattle.processes.specs.declared.front.Front.{Front as FrontC}
-use Rattle.processes.specs.Classes.{Front-kept}
+use Rattle.processes.specs.Classes.{FrontKept}
 use Rattle.processes.specs.Evaluation.{values_of}
 use Rattle.processes.specs.Found.{Answers, Standing, StmtsAt, front_numbered}
 use Rattle.processes.specs.Fronts.{Front, process_fronts}
@@ -49,4 +49,4 @@ module _ (f : List ℕ) (p : Fresh) (r : Option FrontC) (n : ℕ) where
   has_places c h a =
       let s = stands f c p h in
       let all = class_laws.statements-kept _ c.declarations c.variables (c.statement ∷ []) refl s.kept s.room in
-      answer_places f r _ a (λ y e. class_laws.few y.leaves (picked (Front-kept _ c.declarations c.variables) n _ y all e).room)
+      answer_places f r _ a (λ y e. class_laws.few y.leaves (picked (FrontKept _ c.declarations c.variables) n _ y all e).room)

@@ -10,7 +10,7 @@ use Rattle.commands.specs.ByteLists.{Bytes}
 use Rattle.commands.specs.Trees.{Declaration}
 use Rattle.admission.specs.Conditions.{HaveKinds}
 use Rattle.processes.specs.declared.front.Front.{Front as FrontC}
-use Rattle.processes.specs.Classes.{Permitted, Brings}
+use Rattle.processes.specs.Classes.{PermittedBy, BringsOver}
 use Rattle.processes.specs.Evaluation.{values_of}
 use Rattle.processes.specs.Found.{Answers}
 use Rattle.processes.specs.Fronts.{Action, internal, store, sends, receives, Front}
@@ -58,7 +58,7 @@ pub unanswered : (f : List ℕ) (o : Option Front) → Answers f None o → o �
 unanswered f None h = refl
 unanswered f (Some y) h = absurd h
 
-takes_brings : (vs : List Val) (ks : List Kind) (ds : List Declaration) (a : Action) (got : List Val) → map kind_of vs ≡ ks → Permitted ks ds a → Takes vs a got → Brings ks a got
+takes_brings : (vs : List Val) (ks : List Kind) (ds : List Declaration) (a : Action) (got : List Val) → map kind_of vs ≡ ks → PermittedBy ks ds a → Takes vs a got → BringsOver ks a got
 takes_brings vs ks ds internal got e p t = tt
 takes_brings vs ks ds (store v x) got e p t = tt
 takes_brings vs ks ds (sends c m xs) got e p t = tt

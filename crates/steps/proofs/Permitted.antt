@@ -6,8 +6,8 @@ use Rattle.values.specs.Values.{Val, kind_of}
 use Rattle.commands.specs.Trees.{Class}
 use Rattle.files.specs.Statements.{exchange}
 use Rattle.admission.specs.Conditions.{Declares, HaveKinds}
-use Rattle.processes.proofs.Kept.{variable_kind, class_laws}
-use Rattle.processes.specs.Classes.{after, Permitted, Brings, FrontOf}
+use Rattle.processes.proofs.Kept.{variable_kind, class_laws, permitted_by, brings_in}
+use Rattle.processes.specs.Classes.{PermittedBy, BringsOver, FrontOf}
 use Rattle.processes.specs.Fronts.{Action, internal, store, sends, receives, front, process_fronts}
 use Rattle.steps.specs.Declaring.{class_of}
 use Rattle.steps.specs.Kept.{ProcessKept, ModelKept}
@@ -26,7 +26,7 @@ targets_have vs [] (j ∷ js) h = absurd h
 targets_have vs (w ∷ ws) [] h = absurd h
 targets_have vs (w ∷ ws) (j ∷ js) h = let p = variable_kind vs w j h.0 in let q = targets_have vs ws js h.1 in (λ i. p i ∷ q i)
 
-quiet_brings : (ks : List Kind) (a : Action) (got : List Val) → Quiet a → Brings ks a got
+quiet_brings : (ks : List Kind) (a : Action) (got : List Val) → Quiet a → BringsOver ks a got
 quiet_brings ks internal got h = tt
 quiet_brings ks (store v x) got h = tt
 quiet_brings ks (sends c m xs) got h = absurd h
@@ -58,11 +58,11 @@ module _ (m : Model) (o : Offer) (h : OfferOf m o) where
         (class_laws.fronts_kept its_class h.one.variables h.one.left (class_kept m.classes h.one.class k.classes_kept one_kept.of_class) one_kept.process)
         o.front h.front
 
-    permitted : (a : Action) → o.front.does ≡ a → Permitted (map kind_of its_class.variables) its_class.declarations a
-    permitted a e = subst (Permitted (map kind_of its_class.variables) its_class.declarations) e front_of.permitted
+    permitted : (a : Action) → o.front.does ≡ a → PermittedBy (map kind_of its_class.variables) its_class.declarations a
+    permitted a e = subst (PermittedBy (map kind_of its_class.variables) its_class.declarations) e (permitted_by its_class o.front.does front_of.permitted)
 
     abbrev pub OwnBrings : List Val → Type 0
-    OwnBrings got = Brings (map kind_of its_class.variables) o.front.does got
+    OwnBrings got = BringsOver (map kind_of its_class.variables) o.front.does got
 
     pub receives_own : (c n : ℕ) (ws : List ℕ) (js : List Kind) → o.front.does ≡ receives c n ws → target_kinds h.one.variables ws ≡ js → HaveKinds (map kind_of its_class.variables) ws js × Declares its_class.declarations (exchange true c n js)
     receives_own c n ws js e t =
@@ -75,10 +75,10 @@ module _ (m : Model) (o : Offer) (h : OfferOf m o) where
     brings_quiet got q = quiet_brings _ o.front.does got q
 
     pub brings_sent : (c n : ℕ) (xs got : List Val) → o.front.does ≡ sends c n xs → OwnBrings got
-    brings_sent c n xs got e = subst (λ a. Brings (map kind_of its_class.variables) a got) (sym e) tt
+    brings_sent c n xs got e = subst (λ a. BringsOver (map kind_of its_class.variables) a got) (sym e) tt
 
     pub brings_received : (c n : ℕ) (ws : List ℕ) (got : List Val) → o.front.does ≡ receives c n ws → target_kinds h.one.variables ws ≡ map kind_of got → OwnBrings got
-    brings_received c n ws got e t = subst (λ a. Brings (map kind_of its_class.variables) a got) (sym e) (receives_own c n ws (map kind_of got) e t).0
+    brings_received c n ws got e t = subst (λ a. BringsOver (map kind_of its_class.variables) a got) (sym e) (receives_own c n ws (map kind_of got) e t).0
 
     -- what its class declares
     pub declares_sent : (c n : ℕ) (xs : List Val) → o.front.does ≡ sends c n xs → Declares (class_of m o.process).declarations (exchange false c n (map kind_of xs))
@@ -95,7 +95,7 @@ module _ (m : Model) (o : Offer) (h : OfferOf m o) where
 
     pub moved_kept : (got : List Val) → OwnBrings got → ModelKept (with_moved m o.process o.front.number got)
     moved_kept got b =
-        let there : ProcessKept m.classes (gone_on h.one (Some o.front) got) = record { of_class = one_kept.of_class; process = front_of.goes_on got b } in
+        let there : ProcessKept m.classes (gone_on h.one (Some o.front) got) = record { of_class = one_kept.of_class; process = front_of.goes_on got (brings_in its_class o.front.does got b) } in
         record {
           classes_kept = k.classes_kept;
           processes_kept = all_set (ProcessKept m.classes) m.processes o.process _ k.processes_kept (subst (ProcessKept m.classes) (sym (moved_is got)) there);

@@ -1,5 +1,5 @@
 -- What a model keeps, whatever steps are taken.
-use Rattle.std.specs.Prelude.{ℕ, ◌<◌, ◌≤◌, List, length}
+use Rattle.std.specs.Prelude.{◌<◌, ◌≤◌, List, length}
 use Rattle.std.specs.List.{AllByRecursion}
 use Rattle.commands.specs.Trees.{Class}
 use Rattle.admission.specs.Conditions.{ClassKept}

@@ -1,5 +1,5 @@
 -- Worked samples: the steps of a file, and the model after one.
-use Rattle.std.specs.Prelude.{◌≡◌, ℕ, true, false, [], ◌∷◌, set, pos, Some, None, Ok, slice_set}
+use Rattle.std.specs.Prelude.{◌≡◌, ℕ, true, false, [], ◌∷◌, pos, Some, None, Ok, slice_set}
 use Rattle.values.specs.declared.kind.Kind.TheVariants.{Integer}
 use Rattle.values.specs.Values.{integer}
 use Rattle.commands.specs.declared.expression.Leaf.TheVariants.{Var}

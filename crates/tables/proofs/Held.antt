@@ -8,7 +8,7 @@ use Rattle.commands.specs.ByteLists.{Bytes}
 use Rattle.commands.specs.Trees.{Declaration, Class}
 use Rattle.files.specs.Statements.{exchange}
 use Rattle.admission.specs.Conditions.{Declares, HaveKinds, DeclarationKept, ExchangeKept, ClassKept}
-use Rattle.processes.specs.Classes.{Permitted, Front-kept}
+use Rattle.processes.specs.Classes.{PermittedBy, FrontKept}
 use Rattle.processes.specs.Evaluation.{values_of}
 use Rattle.processes.specs.Fronts.{Action, internal, store, sends, receives, Front, process_fronts}
 use Rattle.processes.proofs.Kept.{class_laws}
@@ -36,7 +36,7 @@ as_many ks [] (j ∷ js) h = absurd h
 as_many ks (w ∷ ws) [] h = absurd h
 as_many ks (w ∷ ws) (j ∷ js) h = ap suc (as_many ks ws js h.1)
 
-action_held : (ks : List Kind) (ds : List Declaration) (a : Action) → AllByRecursion DeclarationKept ds → Permitted ks ds a → HoldableAction a
+action_held : (ks : List Kind) (ds : List Declaration) (a : Action) → AllByRecursion DeclarationKept ds → PermittedBy ks ds a → HoldableAction a
 action_held ks ds internal k p = tt
 action_held ks ds (store v x) k p = tt
 action_held ks ds (sends c m xs) k p =
@@ -46,7 +46,7 @@ action_held ks ds (receives c m ws) k p =
     let d = (declared_kept ds (exchange true c m p.0) p.2.0 k p.2.1).exchange_kept in
     (d.channel_kept, omega (arith, d.count_kept, as_many ks ws p.0 p.1))
 
-fronts_held : (ks : List Kind) (ds : List Declaration) (vs us : List Val) (p : ℕ) (fs : List Front) → p < 8 → AllByRecursion DeclarationKept ds → AllByRecursion (Front-kept ks ds us) fs → AllByRecursion Holdable (map (λ x. record { process = p; variables = vs; front = x }) fs)
+fronts_held : (ks : List Kind) (ds : List Declaration) (vs us : List Val) (p : ℕ) (fs : List Front) → p < 8 → AllByRecursion DeclarationKept ds → AllByRecursion (FrontKept ks ds us) fs → AllByRecursion Holdable (map (λ x. record { process = p; variables = vs; front = x }) fs)
 fronts_held ks ds vs us p [] l k a = tt
 fronts_held ks ds vs us p (x ∷ fs) l k a = (record { numbered = l; action = action_held ks ds x.does k a.0.permitted }, fronts_held ks ds vs us p fs l k a.1)
 

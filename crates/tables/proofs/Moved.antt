@@ -8,7 +8,7 @@ use Rattle.values.specs.Values.{Val, kind_of}
 use Rattle.commands.specs.ByteLists.{Bytes}
 use Rattle.commands.specs.Trees.{Stmt, Class, Declaration}
 use Rattle.processes.specs.declared.front.Front.{Front as FrontC}
-use Rattle.processes.specs.Classes.{after, Brings, Front-kept}
+use Rattle.processes.specs.Classes.{after, BringsOver, FrontKept}
 use Rattle.processes.specs.Evaluation.{values_of}
 use Rattle.processes.specs.Found.{action_of, front_numbered, StandsFor}
 use Rattle.processes.specs.Fronts.{Front, process_fronts}
@@ -38,7 +38,7 @@ of_number P n (x ∷ fs) y a h = by (λ k. of_number P n fs y a.1 k) (eqb x.numb
 abbrev pub kinds_of_class : List ℕ → ℕ → Entry → List Kind
 kinds_of_class f n e = map kind_of (class_in_file f n e.class).variables
 
-pub front_kept : (f : List ℕ) (n : ℕ) (e : Entry) (rows : List Row) (number : ℕ) (y : Front) → Good f n e rows → offered_front (view f e rows) number ≡ Some y → Front-kept (kinds_of_class f n e) (class_in_file f n e.class).declarations (values_of rows) y
+pub front_kept : (f : List ℕ) (n : ℕ) (e : Entry) (rows : List Row) (number : ℕ) (y : Front) → Good f n e rows → offered_front (view f e rows) number ≡ Some y → FrontKept (kinds_of_class f n e) (class_in_file f n e.class).declarations (values_of rows) y
 front_kept f n e rows number y g h =
     let c = class_in_file f n e.class in
     let s = g.of_its_class.stands in
@@ -56,7 +56,7 @@ module _ (f : List ℕ) (n : ℕ) (bs : Bytes f) (t u : Table) (p : ℕ) (x : Fr
       → SoundProcess f n (get_or t.entries p no_entry) (rows_of t p)
       → offered_front (process_in f t p) number ≡ Some y
       → StandsFor f x y
-      → Brings (kinds_of_class f n (get_or t.entries p no_entry)) y.does got
+      → BringsOver (kinds_of_class f n (get_or t.entries p no_entry)) y.does got
       → Advanced t u p x got
       → Moves f n t u p y got
   moves lp sound offered stands brings adv =
