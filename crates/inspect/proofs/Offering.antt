@@ -11,7 +11,7 @@ use Rattle.processes.specs.Evaluation.{values_of}
 use Rattle.processes.specs.Found.{Answers, Standing, StmtsAt, front_numbered}
 use Rattle.processes.specs.Fronts.{Front, process_fronts}
 use Rattle.processes.specs.Places.{backwards}
-use Rattle.processes.proofs.Kept.{class_laws, process-stands}
+use Rattle.processes.proofs.Kept.{class_laws, process_stands}
 use Rattle.classes.specs.declared.fresh.Fresh.{Fresh}
 use Rattle.classes.specs.Starts.{FreshOf}
 use Rattle.inspect.specs.Offers.{first_fronts, HasPlaces}
@@ -36,7 +36,7 @@ answer_places f (Some x) None a few = absurd a
 answer_places f (Some x) (Some y) a few = omega (arith, places_many f x.leaves.count x.leaves.places y.leaves a.leaves, few y refl)
 
 pub stands : (f : List ℕ) (c : Class) (p : Fresh) → FreshOf f c p → Standing f p.left (map kind_of c.variables) c.declarations (c.statement ∷ [])
-stands f c p h = process-stands f p.left c.variables c (c.statement ∷ []) h.process
+stands f c p h = process_stands f p.left c.variables c (c.statement ∷ []) h.process
 
 module _ (f : List ℕ) (p : Fresh) (r : Option FrontC) (n : ℕ) where
   -- an answer over the rows of the variables, over the class's values

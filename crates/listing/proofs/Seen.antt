@@ -1,5 +1,5 @@
 -- The steps listed from offers in the code are the steps of the model.
-use Rattle.std.proofs.Common.{◌≡◌, ℕ, zero, suc, ◌<◌, ◌≤◌, Bool, true, false, cond, not, ◌&&◌, eqb, List, [], ◌∷◌, ◌++◌, map, length, get_or, Some, None, Option, sym, refl, ap, ◌∙◌, subst, arith}
+use Rattle.std.proofs.Common.{◌≡◌, ℕ, zero, suc, ◌<◌, ◌≤◌, Bool, true, false, cond, not, ◌&&◌, eqb, List, [], ◌∷◌, ◌++◌, map, length, get_or, Some, None, Option, refl, ap, ◌∙◌, arith}
 use Rattle.std.proofs.lemmas.List.{length-map}
 use Rattle.std.specs.List.{flat_map, AllByRecursion}
 use Rattle.values.specs.declared.kind.Kind.{Kind}
@@ -11,7 +11,6 @@ use Rattle.processes.specs.Fronts.{Action, internal, store, sends, receives}
 use Rattle.records.specs.declared.step.Step.{Step}
 use Rattle.records.specs.Lists.{optional}
 use Rattle.records.specs.Steps as step
-use Rattle.arrivals.specs.Climbing.{meeting_channel, climb}
 use Rattle.steps.specs.Steps as steps
 use Rattle.steps.specs.Steps.{over, agreed, target_kinds, steps_of, internal_by, send_by, receive_by, send_meets, receive_meets}
 use Rattle.listing.specs.declared.offer.Offer.{Offer}

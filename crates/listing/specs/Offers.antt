@@ -1,5 +1,5 @@
 -- Offers by what others see of them, and the steps that they make.
-use Rattle.std.specs.Prelude.{◌≡◌, ℕ, zero, suc, ◌<◌, ◌≤◌, Bool, true, false, cond, not, ◌&&◌, List, [], ◌∷◌, ◌++◌, map, length, Some, None, Option, ◌==◌, slice_index}
+use Rattle.std.specs.Prelude.{◌≡◌, ℕ, zero, suc, ◌<◌, ◌≤◌, Bool, true, cond, not, ◌&&◌, List, [], ◌∷◌, ◌++◌, map, length, Some, None, Option, ◌==◌, slice_index}
 use Rattle.std.specs.List.{flat_map}
 use Rattle.values.specs.declared.kind.Kind.{Kind}
 use Rattle.values.specs.Kinds.{kind_number}

@@ -1,27 +1,27 @@
-use Rattle.records.proofs.Filling.{room-first, room_next, grown-both}
+use Rattle.records.proofs.Filling.{room_first, room_next, grown_both}
 use Rattle.listing.specs.Offers.{listed}
 use Rattle.listing.proofs.fill.put_steps.Goals as goal
 
-pub put-alone-requires : goal.put-alone-requires
+pub put_alone-requires : goal.put_alone-requires
 unfolding listed
-put-alone-requires c = room-first _ _ _ c.requires
+put_alone-requires c = room_first _ _ _ c.requires
 
-pub put-meetings-requires : goal.put-meetings-requires
+pub put_meetings-requires : goal.put_meetings-requires
 unfolding listed
-put-meetings-requires c = room-first _ _ _ (room_next _ _ _ _ c.requires c.put-alone.ensures)
+put_meetings-requires c = room_first _ _ _ (room_next _ _ _ _ c.requires c.put_alone.ensures)
 
-pub put-alone-requires-2 : goal.put-alone-requires-2
+pub put_alone-requires-2 : goal.put_alone-requires-2
 unfolding listed
-put-alone-requires-2 c =
-    room-first _ _ _ (room_next _ _ _ _ (room_next _ _ _ _ c.requires c.put-alone.ensures) c.put-meetings.ensures)
+put_alone-requires-2 c =
+    room_first _ _ _ (room_next _ _ _ _ (room_next _ _ _ _ c.requires c.put_alone.ensures) c.put_meetings.ensures)
 
-pub put-alone-requires-3 : goal.put-alone-requires-3
+pub put_alone-requires-3 : goal.put_alone-requires-3
 unfolding listed
-put-alone-requires-3 c =
-    room_next _ _ _ _ (room_next _ _ _ _ (room_next _ _ _ _ c.requires c.put-alone.ensures) c.put-meetings.ensures) c.put-alone-2.ensures
+put_alone-requires-3 c =
+    room_next _ _ _ _ (room_next _ _ _ _ (room_next _ _ _ _ c.requires c.put_alone.ensures) c.put_meetings.ensures) c.put_alone-2.ensures
 
 pub returns : goal.returns
 unfolding listed
 returns c =
-    grown-both _ _ _ _ _ c.put-alone.ensures
-    (grown-both _ _ _ _ _ c.put-meetings.ensures (grown-both _ _ _ _ _ c.put-alone-2.ensures c.put-alone-3.ensures))
+    grown_both _ _ _ _ _ c.put_alone.ensures
+    (grown_both _ _ _ _ _ c.put_meetings.ensures (grown_both _ _ _ _ _ c.put_alone-2.ensures c.put_alone-3.ensures))

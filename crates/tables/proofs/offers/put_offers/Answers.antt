@@ -3,7 +3,7 @@ use lib.ListN.{length-map}
 use Rattle.admission.proofs.Deciding.{bytes_from}
 use Rattle.processes.specs.Fronts.{Front, process_fronts}
 use Rattle.records.specs.Lists.{items, Grown}
-use Rattle.records.proofs.Filling.{count-more, count-all}
+use Rattle.records.proofs.Filling.{count_more, count_all}
 use Rattle.listing.specs.declared.offer.Offer.{Offer}
 use Rattle.listing.specs.Offers.{offer_of}
 use Rattle.steps.specs.Steps as steps
@@ -30,7 +30,7 @@ loop-p-preserved c =
     subst (λ rows. Grown c.loop-p.out c.put-offers-of.new.out (seen_offers p (view f e rows))) c.rows-of.ensures c.put-offers-of.ensures
     in
     let grown : length (items c.put-offers-of.new.out) ≡ length (items c.loop-p.out) + length (seen_offers p one) = ap length grew.list ∙ length-append (items c.loop-p.out) (seen_offers p one) in (
-      count-more (λ q. seen_offers q (process_in f c.args.table.now q)) c.args.count _ p _ _ c.loop-p.invariant.0 c.loop-p-test.true grew,
+      count_more (λ q. seen_offers q (process_in f c.args.table.now q)) c.args.count _ p _ _ c.loop-p.invariant.0 c.loop-p-test.true grew,
       omega (arith, c.loop-p.invariant.1, grown, few, length-map fs offer, length-map (map offer fs) offer_of),
     )
 
@@ -40,7 +40,7 @@ returns c = record {
       let f = c.args.file.now in
       let one : ℕ → _ = process_in f c.args.table.now in
       subst (Grown c.args.out.now c.loop-p.out) (numbered_offers one 0 c.args.count)
-      (count-all (λ q. seen_offers q (one q)) c.args.count _ c.loop-p.p _ c.loop-p.invariant.0 c.loop-p-test.false);
+      (count_all (λ q. seen_offers q (one q)) c.args.count _ c.loop-p.p _ c.loop-p.invariant.0 c.loop-p-test.false);
   held = let f = c.args.file.now in table_held f c.args.classes (bytes_from f (λ i. omega (arith, (c.type_inv.file i).fits))) c.args.table.now c.args.count c.requires.sound;
   few = let f = c.args.file.now in table_few f c.args.classes (bytes_from f (λ i. omega (arith, (c.type_inv.file i).fits))) c.args.table.now c.args.count c.requires.sound;
   bytes = bytes_from c.args.file.now (λ i. omega (arith, (c.type_inv.file i).fits));

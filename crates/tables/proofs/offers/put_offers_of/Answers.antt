@@ -5,7 +5,7 @@ use Rattle.admission.proofs.Deciding.{bytes_from}
 use Rattle.processes.specs.Evaluation.{values_of}
 use Rattle.processes.specs.Fronts.{Front, process_fronts}
 use Rattle.records.specs.Lists.{optional, Room, Grown}
-use Rattle.records.proofs.Filling.{fill_none, count_fits, count-more, count-all, optional-few}
+use Rattle.records.proofs.Filling.{fill_none, count_fits, count_more, count_all, optional_few}
 use Rattle.listing.specs.declared.offer.Offer.{Offer}
 use Rattle.listing.specs.Offers.{offer_of}
 use Rattle.steps.specs.Models.{Process}
@@ -21,7 +21,7 @@ abbrev made : ℕ → Process → ℕ → List Offer
 made p one n = optional (offer_numbered p one n)
 
 fits : (p : ℕ) (one : Process) → length (flat_map (made p one) (range_with_len 0 8)) ≤ 8
-fits p one = omega (arith, optional-few (offer_numbered p one) (range_with_len 0 8), length-range_with_len 0 8)
+fits p one = omega (arith, optional_few (offer_numbered p one) (range_with_len 0 8), length-range_with_len 0 8)
 
 pub loop-number-init : goal.loop-number-init
 loop-number-init c = fill_none _ _ _
@@ -36,7 +36,7 @@ append-some-requires c =
 pub loop-number-preserved : goal.loop-number-preserved
 loop-number-preserved c =
     let one = view c.args.file.now c.args.entry.now c.args.rows.now in
-    count-more (made c.args.process one) 8 _ c.loop-number.number _ _ c.loop-number.invariant c.loop-number-test.true
+    count_more (made c.args.process one) 8 _ c.loop-number.number _ _ c.loop-number.invariant c.loop-number-test.true
     (subst (λ o. Grown c.loop-number.out c.append-some.new.self (optional o)) c.offer_of.ensures c.append-some.ensures)
 
 pub returns : goal.returns
@@ -51,4 +51,4 @@ returns c =
     let up = eight _ _ one.variables one.left g.of_its_class.stands.kept in
     let e : flat_map (made p one) (range_with_len 0 8) ≡ map (λ x. offer_of (offer x)) fs = all_found (seen_front p one) (λ x. offer_of (offer x)) refl (λ x. refl) 8 0 fs refl up in
     subst (Grown c.args.out.now c.loop-number.out) (e ∙ sym (map_map offer_of offer fs))
-    (count-all (made p one) 8 _ c.loop-number.number _ c.loop-number.invariant c.loop-number-test.false)
+    (count_all (made p one) 8 _ c.loop-number.number _ c.loop-number.invariant c.loop-number-test.false)
