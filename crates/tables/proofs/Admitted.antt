@@ -1,11 +1,10 @@
 -- What an admitted file's classes keep.
-use Rattle.std.proofs.Common.{◌≡◌, ℕ, zero, suc, ◌<◌, ◌≤◌, Bool, true, false, ◌&&◌, ltb, List, [], ◌∷◌, map, length, get_or, Ok, sym, refl, ap, ◌∙◌, subst, arith}
+use Rattle.std.proofs.Common.{◌≡◌, ℕ, zero, suc, ◌<◌, ◌≤◌, ltb, List, length, Ok, sym, refl, ap, ◌∙◌, subst, arith}
 use Rattle.std.specs.List.{AllByRecursion}
 use Rattle.std.proofs.lemmas.Bool.{ltb-true}
 use Rattle.values.specs.declared.row.Row.{Row}
 use Rattle.commands.specs.ByteLists.{Bytes}
 use Rattle.commands.specs.Bytes.{file_bytes}
-use Rattle.commands.specs.Trees.{Class, File}
 use Rattle.files.specs.Checked.{◌>>=◌}
 use Rattle.files.specs.Files.{Summary, check_file}
 use Rattle.admission.specs.Admission.{summary}
@@ -17,7 +16,7 @@ use Rattle.admission.proofs.Supplied.{admits}
 use Rattle.steps.proofs.Staying.{class_kept as its_class_kept}
 use Rattle.tables.specs.declared.table.Entry.{Entry}
 use Rattle.tables.specs.Offered.{SoundProcess}
-use Rattle.tables.specs.Views.{class_in_file, of_class, sound_entry}
+use Rattle.tables.specs.Views.{class_in_file}
 use Rattle.tables.proofs.Sound.{OfClass, sound_stands}
 
 -- the file that bytes are read as

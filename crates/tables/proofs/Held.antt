@@ -1,19 +1,18 @@
 -- The offers of a sound table can be held by the code.
-use Rattle.std.proofs.Common.{◌≡◌, ℕ, zero, suc, ◌+◌, ◌*◌, ◌<◌, ◌≤◌, Bool, true, false, List, [], ◌∷◌, ◌++◌, map, length, get_or, Some, None, Option, sym, refl, ap, ◌∙◌, subst, arith, length-append}
+use Rattle.std.proofs.Common.{◌≡◌, ℕ, zero, suc, ◌+◌, ◌*◌, ◌<◌, ◌≤◌, true, false, List, [], ◌∷◌, map, length, get_or, Some, refl, ap, subst, arith, length-append}
 use lib.ListN.{length-map}
 use Rattle.std.specs.List.{range_with_len, slice_get, AllByRecursion}
 use Rattle.values.specs.declared.kind.Kind.{Kind}
 use Rattle.values.specs.Values.{Val, kind_of}
 use Rattle.commands.specs.ByteLists.{Bytes}
-use Rattle.commands.specs.Trees.{Declaration, Class}
+use Rattle.commands.specs.Trees.{Declaration}
 use Rattle.files.specs.Statements.{exchange}
-use Rattle.admission.specs.Conditions.{Declares, HaveKinds, DeclarationKept, ExchangeKept, ClassKept}
+use Rattle.admission.specs.Conditions.{HaveKinds, DeclarationKept}
 use Rattle.processes.specs.Classes.{PermittedBy, FrontKept}
 use Rattle.processes.specs.Evaluation.{values_of}
 use Rattle.processes.specs.Fronts.{Action, internal, store, sends, receives, Front, process_fronts}
 use Rattle.processes.proofs.Kept.{class_laws}
 use Rattle.listing.specs.Offers.{HoldableAction, Holdable}
-use Rattle.steps.specs.Models.{Process}
 use Rattle.steps.specs.Steps.{Offer, offers_of, offers_from}
 use Rattle.steps.proofs.Staying.{all_append}
 use Rattle.tables.specs.declared.table.Table.{Table}
@@ -58,7 +57,7 @@ module _ (f : List ℕ) (n : ℕ) (bs : Bytes f) (t : Table) (count : ℕ) (soun
       let g = good f n e rows bs (sound.each p l) in
       let c = class_in_file f n e.class in
       let s = g.of_its_class.stands in
-      let all = class_laws.statements-kept (kinds_of_class f n e) c.declarations (values_of rows) (left_in f e.left) g.of_its_class.same_kinds_of s.kept s.room in
+      let all = class_laws.statements_kept (kinds_of_class f n e) c.declarations (values_of rows) (left_in f e.left) g.of_its_class.same_kinds_of s.kept s.room in
       fronts_held (kinds_of_class f n e) c.declarations (values_of rows) (values_of rows) p (process_fronts (values_of rows) (left_in f e.left)) (omega (arith, l, sound.few)) g.class_kept.declarations_kept all
 
   process_few : (p : ℕ) → p < count → length (offers_of p (process_in f t p)) ≤ 8

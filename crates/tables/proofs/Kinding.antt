@@ -1,10 +1,10 @@
 -- The kinds of values and variables as bytes.
-use Rattle.std.proofs.Common.{◌≡◌, ℕ, zero, suc, ◌<◌, ◌≤◌, List, [], ◌∷◌, map, length, get_or, Some, None, sym, refl, ap, ◌∙◌, arith}
+use Rattle.std.proofs.Common.{◌≡◌, ℕ, zero, suc, ◌<◌, ◌≤◌, List, [], ◌∷◌, map, length, get_or, None, refl, ap, arith}
 use Rattle.values.specs.declared.kind.Kind.{Kind}
 use Rattle.values.specs.declared.row.Row.{Row}
 use Rattle.values.specs.Kinds.{kind_number}
 use Rattle.values.specs.Rows.{value_of_row}
-use Rattle.values.specs.Values.{Val, integer, kind_of}
+use Rattle.values.specs.Values.{integer}
 use Rattle.listing.specs.Offers.{kind_bytes}
 use Rattle.tables.specs.Offered.{kind_byte}
 

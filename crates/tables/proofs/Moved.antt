@@ -1,12 +1,11 @@
 -- What a table stands for after a front of one process.
-use Rattle.std.proofs.Common.{◌≡◌, ℕ, ◌<◌, Bool, true, false, cond, ◌&&◌, eqb, ltb, ◌≢◌, List, [], ◌∷◌, map, length, get_or, take, set, Some, None, Option, sym, refl, ap, ◌∙◌, subst, arith, get_or-set_other, get_or-set_same}
+use Rattle.std.proofs.Common.{◌≡◌, ℕ, ◌<◌, Bool, true, false, cond, eqb, ltb, ◌≢◌, List, [], ◌∷◌, map, get_or, take, Some, sym, ap, ◌∙◌, subst, arith, get_or-set_other, get_or-set_same}
 use Rattle.std.specs.List.{AllByRecursion}
 use Rattle.std.proofs.lemmas.Bool.{lt-ltb}
 use Rattle.values.specs.declared.kind.Kind.{Kind}
 use Rattle.values.specs.declared.row.Row.{Row}
 use Rattle.values.specs.Values.{Val, kind_of}
 use Rattle.commands.specs.ByteLists.{Bytes}
-use Rattle.commands.specs.Trees.{Stmt, Class, Declaration}
 use Rattle.processes.specs.declared.front.Front.{Front as FrontC}
 use Rattle.processes.specs.Classes.{after, BringsOver, FrontKept}
 use Rattle.processes.specs.Evaluation.{values_of}
@@ -42,7 +41,7 @@ pub front_kept : (f : List ℕ) (n : ℕ) (e : Entry) (rows : List Row) (number 
 front_kept f n e rows number y g h =
     let c = class_in_file f n e.class in
     let s = g.of_its_class.stands in
-    let all = class_laws.statements-kept (kinds_of_class f n e) c.declarations (values_of rows) (left_in f e.left) g.of_its_class.same_kinds_of s.kept s.room in
+    let all = class_laws.statements_kept (kinds_of_class f n e) c.declarations (values_of rows) (left_in f e.left) g.of_its_class.same_kinds_of s.kept s.room in
     of_number _ number (process_fronts (values_of rows) (left_in f e.left)) y all h
 
 pub record Moves (f : List ℕ) (n : ℕ) (before after_it : Table) (p : ℕ) (y : Front) (got : List Val) : Type 0 where
@@ -79,7 +78,7 @@ module _ (f : List ℕ) (n : ℕ) (bs : Bytes f) (t u : Table) (p : ℕ) (x : Fr
       let left : left_in f x.leaves ≡ y.leaves = all_read f (places_of x.leaves) y.leaves stands.leaves fk.room in
       let kinds : map kind_of (values_of (rows_of u p)) ≡ map kind_of c.variables = ap (map kind_of) values ∙ fk.kinds got brings in
       let again : of_class f c (with_left e x.leaves) (rows_of u p) ≡ true =
-      kept_sound f c (with_left e x.leaves) (rows_of u p) y.leaves g.of_its_class.count kinds stands.leaves fk.Leaves-kept fk.room
+      kept_sound f c (with_left e x.leaves) (rows_of u p) y.leaves g.of_its_class.count kinds stands.leaves fk.leaves_kept fk.room
       in
       let other : (q : ℕ) → q ≢ p → get_or u.entries q no_entry ≡ get_or t.entries q no_entry =
       λ q ne. ap (λ es. get_or es q no_entry) adv.entries ∙ get_or-set_other t.entries p q (with_left e x.leaves) no_entry ne

@@ -1,5 +1,5 @@
 -- At most four values in rows.
-use Rattle.std.proofs.Common.{◌≡◌, ℕ, ◌<◌, ◌≤◌, Bool, true, false, ◌&&◌, List, [], ◌∷◌, map, length, get_or, take, None, refl, ap, arith}
+use Rattle.std.proofs.Common.{◌≡◌, ◌<◌, ◌≤◌, Bool, true, false, ◌&&◌, List, [], ◌∷◌, map, length, get_or, take, None, refl, arith}
 use Rattle.values.specs.declared.kind.Kind.{Kind}
 use Rattle.values.specs.Kinds.{same_kind}
 use Rattle.values.specs.Rows.{row_of}

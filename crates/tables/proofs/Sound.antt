@@ -1,25 +1,24 @@
 -- An entry that is sound stands for a process of its class, and what a front leaves is sound again.
-use Rattle.std.proofs.Common.{◌≡◌, ℕ, ◌+◌, ◌<◌, ◌≤◌, Bool, true, false, ◌&&◌, eqb, ltb, leb, List, [], ◌∷◌, map, length, is_ok, Ok, Err, Result, sym, refl, ap, ◌∙◌, subst, arith}
+use Rattle.std.proofs.Common.{◌≡◌, ℕ, ◌+◌, ◌≤◌, Bool, true, false, ◌&&◌, eqb, leb, List, [], ◌∷◌, map, length, is_ok, Ok, Err, sym, refl, ap, subst, arith}
 use Rattle.std.specs.List.{AllByRecursion}
 use Rattle.std.proofs.lemmas.Bool.{leb-true, le-leb, eqb-true, eq-eqb}
 use Rattle.values.specs.declared.kind.Kind.{Kind}
 use Rattle.values.specs.declared.row.Row.{Row}
-use Rattle.values.specs.Values.{Val, kind_of}
+use Rattle.values.specs.Values.{kind_of}
 use Rattle.commands.specs.ByteLists.{Bytes}
 use Rattle.commands.specs.Depths.{stmt_depth}
 use Rattle.commands.specs.Stands.{StmtAt}
-use Rattle.commands.specs.Trees.{Stmt, Class, Declaration}
+use Rattle.commands.specs.Trees.{Stmt, Class}
 use Rattle.files.specs.Checked.{Checked}
 use Rattle.files.specs.Files.{levels}
 use Rattle.files.specs.Statements.{same_kinds}
 use Rattle.files.specs.Statements.{check_statement}
 use Rattle.parts.specs.Parts.{stmt_in}
 use Rattle.parts.proofs.Reading.{stmt_reads}
-use Rattle.admission.specs.Conditions.{StmtKept, ClassKept}
+use Rattle.admission.specs.Conditions.{StmtKept}
 use Rattle.admission.proofs.Exchanges.{same_kinds_from, same_kinds_refl}
 use Rattle.admission.proofs.Oks.{both_true}
 use Rattle.admission.proofs.Stmts.{stmt_sound, stmt_complete}
-use Rattle.processes.specs.declared.left.Left.{Left}
 use Rattle.processes.specs.Classes.{HasRoom}
 use Rattle.processes.specs.Evaluation.{values_of}
 use Rattle.processes.specs.Found.{StmtsAt, Standing}

@@ -1,7 +1,6 @@
 -- The table of processes in the code.
-use Rattle.std.specs.Prelude.{ℕ, List, [], get_or, take, replicate, slice_index_or}
+use Rattle.std.specs.Prelude.{ℕ, List, [], get_or, take, slice_index_or}
 use Rattle.values.specs.declared.row.Row.{Row}
-use Rattle.processes.specs.declared.left.Left.{Left}
 use Rattle.tables.specs.declared.table.Entry.{Entry}
 use Rattle.tables.specs.declared.table.Table.{Table}
 

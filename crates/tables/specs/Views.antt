@@ -1,7 +1,6 @@
 -- The processes that a table and a file's bytes stand for, and what the bytes must keep for it.
 use Rattle.std.specs.Prelude.{ℕ, ◌+◌, Bool, true, ◌&&◌, List, [], ◌∷◌, map, length, is_ok, ◌==◌, nat_le, nat_lt, slice_index_or}
 use Rattle.std.specs.List.{range_with_len}
-use Rattle.values.specs.declared.kind.Kind.{Kind}
 use Rattle.values.specs.declared.row.Row.{Row}
 use Rattle.values.specs.Values.{kind_of}
 use Rattle.commands.specs.Depths.{stmt_depth}

@@ -16,7 +16,7 @@ ghost use Rattle.tables.specs.Offered.{SoundProcess, SoundTable, kind_byte, offe
 
 use crate::table::{Entry, Table};
 use listing::offer::{Offer, Role};
-use processes::finding::front;
+use processes::finding::front_of_places;
 use processes::front::{Action, Front};
 use records::list::RecordList;
 use values::kind::Kind;
@@ -28,7 +28,7 @@ pub fn front_of(file: &[u8], classes: u8, entry: &Entry, rows: &[Row], number: u
     ensures front { Answers file.now result (offered_front (view file.now entry.now rows.now) number) }
     ensures bytes { Bytes file.now }
 {
-    front(file, entry.left, rows, number)
+    front_of_places(file, entry.left, rows, number)
 }
 
 // The number of the kind of value `i`; 0 where there is none.

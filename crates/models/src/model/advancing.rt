@@ -13,7 +13,7 @@ use processes::front::Sent;
 use records::record::Record;
 use records::step::{INTERNAL, MEETING, OUTSIDE_RECEIVE, Step};
 use steps::refusal::StepRefusal;
-use tables::values::{normal, sent_by, takes};
+use tables::exchanged::{normal, sent_by, takes};
 use values::row::Row;
 
 impl Model {

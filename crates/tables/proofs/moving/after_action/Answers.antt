@@ -8,6 +8,6 @@ use Rattle.tables.proofs.moving.after_action.Goals as goal
 
 pub returns-in-Store : goal.returns-in-Store
 returns-in-Store c =
-    ap values_of c.put-row.ensures
+    ap values_of c.put_row.ensures
     ∙ map-set value_of_row c.args.rows c.in-Store.variable c.in-Store.row
     ∙ ap (λ a. after (values_of c.args.rows) (action_of a) (values_of c.args.got.now)) (sym c.in-Store.is)

@@ -1,4 +1,4 @@
-use Rattle.std.proofs.Common.{map, length, sym, ap, ◌∙◌, arith}
+use Rattle.std.proofs.Common.{map, sym, ap, ◌∙◌, arith}
 use lib.ListN.{length-map}
 use Rattle.values.specs.Kinds.{kind_number}
 use Rattle.values.specs.Rows.{value_of_row}

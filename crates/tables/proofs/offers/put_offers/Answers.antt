@@ -1,10 +1,9 @@
-use Rattle.std.proofs.Common.{◌≡◌, ℕ, ◌+◌, ◌*◌, ◌≤◌, List, ◌++◌, map, length, get_or, ap, ◌∙◌, subst, arith, length-append}
+use Rattle.std.proofs.Common.{◌≡◌, ℕ, ◌+◌, map, length, get_or, ap, ◌∙◌, subst, arith, length-append}
 use lib.ListN.{length-map}
 use Rattle.admission.proofs.Deciding.{bytes_from}
 use Rattle.processes.specs.Fronts.{Front, process_fronts}
 use Rattle.records.specs.Lists.{items, Grown}
 use Rattle.records.proofs.Filling.{count_more, count_all}
-use Rattle.listing.specs.declared.offer.Offer.{Offer}
 use Rattle.listing.specs.Offers.{offer_of}
 use Rattle.steps.specs.Steps as steps
 use Rattle.tables.specs.Offered.{seen_offers}
@@ -26,10 +25,10 @@ loop-p-preserved c =
     let g = good f c.args.classes _ _ small (c.requires.sound.each p c.loop-p-test.true) in
     let few = ascend_short 0 8 fs (eight _ _ one.variables one.left g.of_its_class.stands.kept) in
     let e = get_or c.args.table.now.entries p no_entry in
-    let grew : Grown c.loop-p.out c.put-offers-of.new.out (seen_offers p one) =
-    subst (λ rows. Grown c.loop-p.out c.put-offers-of.new.out (seen_offers p (view f e rows))) c.rows-of.ensures c.put-offers-of.ensures
+    let grew : Grown c.loop-p.out c.put_offers_of.new.out (seen_offers p one) =
+    subst (λ rows. Grown c.loop-p.out c.put_offers_of.new.out (seen_offers p (view f e rows))) c.rows_of.ensures c.put_offers_of.ensures
     in
-    let grown : length (items c.put-offers-of.new.out) ≡ length (items c.loop-p.out) + length (seen_offers p one) = ap length grew.list ∙ length-append (items c.loop-p.out) (seen_offers p one) in (
+    let grown : length (items c.put_offers_of.new.out) ≡ length (items c.loop-p.out) + length (seen_offers p one) = ap length grew.list ∙ length-append (items c.loop-p.out) (seen_offers p one) in (
       count_more (λ q. seen_offers q (process_in f c.args.table.now q)) c.args.count _ p _ _ c.loop-p.invariant.0 c.loop-p-test.true grew,
       omega (arith, c.loop-p.invariant.1, grown, few, length-map fs offer, length-map (map offer fs) offer_of),
     )

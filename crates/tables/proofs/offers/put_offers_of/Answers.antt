@@ -2,7 +2,6 @@ use Rattle.std.proofs.Common.{◌≡◌, ℕ, ◌≤◌, List, map, length, sym,
 use Rattle.std.specs.List.{range_with_len, flat_map}
 use Rattle.std.proofs.lemmas.List.FromFn.{length-range_with_len}
 use Rattle.admission.proofs.Deciding.{bytes_from}
-use Rattle.processes.specs.Evaluation.{values_of}
 use Rattle.processes.specs.Fronts.{Front, process_fronts}
 use Rattle.records.specs.Lists.{optional, Room, Grown}
 use Rattle.records.proofs.Filling.{fill_none, count_fits, count_more, count_all, optional_few}
@@ -10,8 +9,8 @@ use Rattle.listing.specs.declared.offer.Offer.{Offer}
 use Rattle.listing.specs.Offers.{offer_of}
 use Rattle.steps.specs.Models.{Process}
 use Rattle.steps.specs.Steps as steps
-use Rattle.tables.specs.Offered.{offer_numbered, seen_front, seen_offers}
-use Rattle.tables.specs.Views.{view, left_in}
+use Rattle.tables.specs.Offered.{offer_numbered, seen_front}
+use Rattle.tables.specs.Views.{view}
 use Rattle.tables.proofs.Admitted.{good}
 use Rattle.tables.proofs.Gathering.{all_found, eight}
 use Rattle.tables.proofs.Kinding.{map_map}
@@ -26,8 +25,8 @@ fits p one = omega (arith, optional_few (offer_numbered p one) (range_with_len 0
 pub loop-number-init : goal.loop-number-init
 loop-number-init c = fill_none _ _ _
 
-pub append-some-requires : goal.append-some-requires
-append-some-requires c =
+pub append_some-requires : goal.append_some-requires
+append_some-requires c =
     let one = view c.args.file.now c.args.entry.now c.args.rows.now in
     let p = c.args.process in
     subst (λ o. Room c.loop-number.out (optional o)) (sym c.offer_of.ensures)
@@ -37,7 +36,7 @@ pub loop-number-preserved : goal.loop-number-preserved
 loop-number-preserved c =
     let one = view c.args.file.now c.args.entry.now c.args.rows.now in
     count_more (made c.args.process one) 8 _ c.loop-number.number _ _ c.loop-number.invariant c.loop-number-test.true
-    (subst (λ o. Grown c.loop-number.out c.append-some.new.self (optional o)) c.offer_of.ensures c.append-some.ensures)
+    (subst (λ o. Grown c.loop-number.out c.append_some.new.self (optional o)) c.offer_of.ensures c.append_some.ensures)
 
 pub returns : goal.returns
 returns c =

@@ -3,7 +3,7 @@ use Rattle.values.specs.Rows.{row_of}
 use Rattle.processes.specs.Evaluation.{values_of}
 use Rattle.processes.specs.Found.{action_of}
 use Rattle.tables.specs.Exchanging.{sent_by}
-use Rattle.tables.proofs.values.sent_by.Goals as goal
+use Rattle.tables.proofs.exchanged.sent_by.Goals as goal
 
 pub returns-in-Send : goal.returns-in-Send
 returns-in-Send c =

@@ -6,7 +6,7 @@ use Rattle.processes.specs.Found.{action_of}
 use Rattle.listing.specs.Offers.{kind_bytes}
 use Rattle.steps.specs.Steps.{target_kinds}
 use Rattle.tables.specs.Exchanging.{wanted_by}
-use Rattle.tables.proofs.values.wanted_bytes.Goals as goal
+use Rattle.tables.proofs.exchanged.wanted_bytes.Goals as goal
 
 pub returns-in-Receive : goal.returns-in-Receive
 returns-in-Receive c =
@@ -14,7 +14,7 @@ returns-in-Receive c =
     let ws = c.all.result.now in
     record {
       are =
-          c.target-bytes.ensures
+          c.target_bytes.ensures
           ∙ ap (λ us. kind_bytes 4 (target_kinds vs us)) c.all.ensures.are
           ∙ ap (λ a. kind_bytes 4 (wanted_by vs (action_of a))) (sym c.in-Receive.is);
       few =
