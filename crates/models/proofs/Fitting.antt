@@ -1,6 +1,5 @@
 -- The fronts of a step that is not refused take what the step exchanges.
-use Rattle.std.proofs.Common.{◌≡◌, ℕ, true, false, List, [], ◌∷◌, map, Some, None, sym, refl, ap, ◌∙◌, subst, arith}
-use Rattle.values.specs.declared.row.Row.{Row}
+use Rattle.std.proofs.Common.{◌≡◌, true, false, List, [], ◌∷◌, map, Some, None, sym, refl, ap, ◌∙◌, subst, arith}
 use Rattle.values.specs.Rows.{row_of, value_of_row}
 use Rattle.values.specs.Values.{Val, integer, boolean, kind_of}
 use Rattle.admission.proofs.Exchanges.{same_kinds_from}

@@ -1,11 +1,11 @@
 -- A model after a front of one process.
-use Rattle.std.proofs.Common.{◌≡◌, ℕ, zero, suc, ◌+◌, ◌<◌, ◌≤◌, true, false, eqb, ◌≢◌, ◌⊎◌, List, [], ◌∷◌, map, length, get_or, set, Some, None, Option, sym, refl, ap, ◌∙◌, subst, inl, inr, arith}
+use Rattle.std.proofs.Common.{◌≡◌, ℕ, zero, suc, ◌+◌, ◌<◌, ◌≤◌, true, false, eqb, ◌≢◌, ◌⊎◌, List, [], ◌∷◌, map, get_or, set, Some, None, Option, sym, refl, ap, ◌∙◌, subst, inl, inr, arith}
 use Rattle.std.specs.List.{range_with_len}
 use Rattle.std.proofs.lemmas.List.FromFn.{length-map-range_with_len}
 use Rattle.std.proofs.lemmas.List.{set_past}
 use Rattle.std.proofs.lemmas.Bool.Decides.{eqb_tells}
 use Rattle.values.specs.declared.kind.Kind.{Kind}
-use Rattle.values.specs.Values.{Val, kind_of, integer}
+use Rattle.values.specs.Values.{Val, kind_of}
 use Rattle.commands.specs.ByteLists.{Bytes}
 use Rattle.commands.specs.Trees.{Declaration}
 use Rattle.admission.specs.Conditions.{HaveKinds}
@@ -14,8 +14,6 @@ use Rattle.processes.specs.Classes.{PermittedBy, BringsOver}
 use Rattle.processes.specs.Evaluation.{values_of}
 use Rattle.processes.specs.Found.{Answers}
 use Rattle.processes.specs.Fronts.{Action, internal, store, sends, receives, Front}
-use Rattle.steps.specs.Models as steps
-use Rattle.steps.specs.Steps.{target_kinds}
 use Rattle.steps.specs.Taking.{ended, process_numbered, offered_front, gone_on, moved, with_moved}
 use Rattle.steps.proofs.Permitted.{targets_have}
 use Rattle.tables.specs.declared.table.Table.{Table}
@@ -29,7 +27,7 @@ use Rattle.models.specs.declared.model.Model.{Model}
 use Rattle.models.specs.Sound.{SoundProcesses}
 use Rattle.models.specs.Takes.{Takes, FrontTakes}
 use Rattle.models.specs.Views.{bytes_of, model_of}
-use Rattle.models.proofs.Numbering.{process_there, process_absent}
+use Rattle.models.proofs.Numbering.{process_there}
 use Rattle.models.proofs.Sounds.{table_sound}
 
 set_own : {A : Type 0} (xs : List A) (p : ℕ) (d : A) → set xs p (get_or xs p d) ≡ xs

@@ -1,8 +1,6 @@
 -- The processes of a model by their numbers.
-use Rattle.std.proofs.Common.{◌≡◌, ℕ, zero, suc, ◌+◌, ◌<◌, ◌≤◌, ◌≢◌, List, [], ◌∷◌, map, length, get_or, set, sym, refl, ap, ◌∙◌, subst, arith}
-use Rattle.std.specs.List.{range_with_len}
+use Rattle.std.proofs.Common.{◌≡◌, ℕ, zero, suc, ◌<◌, ◌≤◌, List, [], ◌∷◌, length, get_or, refl, arith}
 use Rattle.std.proofs.lemmas.List.FromFn.{length-map-range_with_len, get_or-map-range_with_len}
-use Rattle.steps.specs.Models as steps
 use Rattle.steps.specs.Taking.{ended, process_numbered}
 use Rattle.tables.specs.Views.{process_in, processes_in}
 use Rattle.models.specs.declared.model.Model.{Model}

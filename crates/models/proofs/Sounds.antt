@@ -1,5 +1,5 @@
 -- What the memory of a model stands for.
-use Rattle.std.proofs.Common.{◌≡◌, ℕ, zero, suc, ◌<◌, ◌≤◌, Bool, true, false, cond, ◌&&◌, eqb, ltb, List, [], ◌∷◌, map, length, None, Ok, Err, sym, refl, ap, ◌∙◌, subst, arith}
+use Rattle.std.proofs.Common.{◌≡◌, ℕ, zero, suc, ◌<◌, true, cond, eqb, List, map, None, Ok, Err, refl, ap, ◌∙◌, arith}
 use Rattle.std.specs.List.{AllByRecursion}
 use Rattle.std.proofs.lemmas.Bool.{eqb-true, lt-ltb}
 use Rattle.commands.specs.ByteLists.{Bytes}
@@ -7,9 +7,8 @@ use Rattle.commands.specs.Trees.{Behaviour}
 use Rattle.files.specs.Checked.{Checked}
 use Rattle.files.specs.Files.{Summary, check_file, levels}
 use Rattle.parts.specs.Parts.{behaviour_in}
-use Rattle.admission.specs.Read.{tree_in}
 use Rattle.admission.proofs.Oks.{both_true}
-use Rattle.arrivals.specs.Climbing.{arrival_in, arrival_table, meeting_channel}
+use Rattle.arrivals.specs.Climbing.{arrival_in}
 use Rattle.arrivals.proofs.Lookups.{table_laws}
 use Rattle.listing.specs.Offers.{offer_of, listed, Holdable, ArrivesBy}
 use Rattle.listing.proofs.Seen.{listed_same}

@@ -1,17 +1,17 @@
 -- The table that an admitted file starts with.
-use Rattle.std.proofs.Common.{◌≡◌, ℕ, zero, suc, ◌+◌, ◌<◌, ◌≤◌, Bool, true, false, ◌&&◌, eqb, ltb, ◌≢◌, ◌⊎◌, List, [], ◌∷◌, map, length, get_or, take, set, Some, None, Ok, sym, refl, ap, ◌∙◌, subst, inl, inr, add-zero, zero-add, arith, get_or-set_other, get_or-set_same}
+use Rattle.std.proofs.Common.{◌≡◌, ℕ, zero, suc, ◌+◌, ◌<◌, ◌≤◌, true, false, eqb, ltb, ◌≢◌, ◌⊎◌, List, [], ◌∷◌, map, length, get_or, take, set, Some, Ok, sym, refl, ap, ◌∙◌, subst, inl, inr, add-zero, zero-add, arith, get_or-set_other, get_or-set_same}
 use Rattle.std.specs.List.{range_with_len, slice_get, AllByRecursion}
 use Rattle.std.proofs.lemmas.Bool.{lt-ltb, eq-eqb}
 use Rattle.std.proofs.lemmas.Bool.Decides.{eqb_tells}
 use Rattle.values.specs.declared.row.Row.{Row}
 use Rattle.values.specs.Values.{kind_of}
 use Rattle.commands.specs.ByteLists.{Bytes}
-use Rattle.commands.specs.Bytes.{file_bytes, classes_size}
+use Rattle.commands.specs.Bytes.{classes_size}
 use Rattle.commands.specs.Stands.{BehaviourAt}
-use Rattle.commands.specs.Trees.{Behaviour, Class, File}
+use Rattle.commands.specs.Trees.{Class, File}
 use Rattle.files.specs.Checked.{◌>>=◌}
-use Rattle.files.specs.Files.{Summary, check_file, levels}
-use Rattle.admission.specs.Conditions.{processes, ClassKept}
+use Rattle.files.specs.Files.{Summary, check_file}
+use Rattle.admission.specs.Conditions.{processes}
 use Rattle.admission.specs.Read.{tree_in, read}
 use Rattle.admission.proofs.Rereading.{reads_trees}
 use Rattle.processes.specs.Classes.{HasRoom}

@@ -1,5 +1,5 @@
 -- What the memory of a model keeps.
-use Rattle.std.specs.Prelude.{◌≡◌, ℕ, ◌<◌, ◌≤◌, Bool, true, false, ◌&&◌, List, Ok, Err, ◌==◌, slice_index_or}
+use Rattle.std.specs.Prelude.{◌≡◌, ℕ, ◌<◌, Bool, true, false, ◌&&◌, List, Ok, Err, ◌==◌, slice_index_or}
 use Rattle.files.specs.Checked.{Checked}
 use Rattle.files.specs.Files.{Summary, check_file, levels}
 use Rattle.parts.specs.Parts.{behaviour_in}

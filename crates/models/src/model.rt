@@ -6,7 +6,7 @@ use arrivals::table::Arrivals;
 use tables::table::Table;
 
 mod advancing;
-mod listing;
+mod gathered;
 mod making;
 mod taking;
 

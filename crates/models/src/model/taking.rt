@@ -10,7 +10,7 @@ ghost use Rattle.models.specs.Takes.{FrontTakes};
 ghost use Rattle.models.specs.Views.{model_of, bytes_of};
 
 use super::Model;
-use super::listing::MOST_STEPS;
+use super::gathered::MOST_STEPS;
 use processes::front::Front;
 use records::list::RecordList;
 use records::step::Step;

@@ -1,8 +1,7 @@
-use Rattle.std.proofs.Common.{◌≡◌, map, sym, ap, ◌∙◌, subst, arith}
+use Rattle.std.proofs.Common.{map, sym, ap, ◌∙◌}
 use Rattle.values.specs.Values.{kind_of}
 use Rattle.files.specs.Statements.{same_kinds}
 use Rattle.processes.specs.Evaluation.{values_of}
-use Rattle.processes.specs.Found.{action_of}
 use Rattle.steps.specs.Taking.{process_numbered, offered_front}
 use Rattle.tables.specs.Exchanging.{wanted_by}
 use Rattle.tables.proofs.Gathering.{answered}
@@ -11,17 +10,17 @@ use Rattle.models.proofs.Fits.{fits_other, fits_without, fits_front, no_values_f
 use Rattle.models.proofs.Going.{unanswered}
 use Rattle.models.proofs.Numbering.{process_there}
 use Rattle.models.proofs.model.Model.fits.Goals as goal
-use Rattle.models.proofs.model.Model.fits.Goals.{then-step-ne-OUTSIDE-RECEIVE-via-then-step-ne-OUTSIDE-RECEIVE, then-step-ne-OUTSIDE-RECEIVE-via-else-step-ne-OUTSIDE-RECEIVE+then-step-self}
+use Rattle.models.proofs.model.Model.fits.Goals.{then-step-ne-OUTSIDE_RECEIVE-via-then-step-ne-OUTSIDE_RECEIVE, then-step-ne-OUTSIDE_RECEIVE-via-else-step-ne-OUTSIDE_RECEIVE+then-step-self}
 
-pub returns-then-step-ne-OUTSIDE-RECEIVE : goal.returns-then-step-ne-OUTSIDE-RECEIVE
-returns-then-step-ne-OUTSIDE-RECEIVE c =
+pub returns-then-step-ne-OUTSIDE_RECEIVE : goal.returns-then-step-ne-OUTSIDE_RECEIVE
+returns-then-step-ne-OUTSIDE_RECEIVE c =
     let m = c.args.self.now in
     let s = c.args.step.now in
     let values = c.args.values.now in
     record {
-      exact = elim c.then-step-ne-OUTSIDE-RECEIVE.branch [
-        | then-step-ne-OUTSIDE-RECEIVE-via-then-step-ne-OUTSIDE-RECEIVE w ↦ fits_other (model_of m) s values w.if-step-ne-OUTSIDE-RECEIVE.true
-        | then-step-ne-OUTSIDE-RECEIVE-via-else-step-ne-OUTSIDE-RECEIVE+then-step-self w ↦ fits_without (model_of m) s values (absent_front m s.process s.front w.if-step-self.true)
+      exact = elim c.then-step-ne-OUTSIDE_RECEIVE.branch [
+        | then-step-ne-OUTSIDE_RECEIVE-via-then-step-ne-OUTSIDE_RECEIVE w ↦ fits_other (model_of m) s values w.if-step-ne-OUTSIDE_RECEIVE.true
+        | then-step-ne-OUTSIDE_RECEIVE-via-else-step-ne-OUTSIDE_RECEIVE+then-step-self w ↦ fits_without (model_of m) s values (absent_front m s.process s.front w.if-step-self.true)
       ];
       short = no_values_few values;
     }
@@ -37,9 +36,9 @@ returns-in-Some c =
     record {
       exact =
           c.takes.ensures.exact
-          ∙ (λ i. same_kinds (wanted_by (values_of (c.rows-of.ensures i)) (a.2.does i)) (map kind_of (values_of values)))
+          ∙ (λ i. same_kinds (wanted_by (values_of (c.rows_of.ensures i)) (a.2.does i)) (map kind_of (values_of values)))
           ∙ ap (λ w. same_kinds (wanted_by w.variables a.0.does) (map kind_of (values_of values))) (sym there)
-          ∙ fits_front (model_of m) s values a.0 c.if-step-ne-OUTSIDE-RECEIVE.false a.1;
+          ∙ fits_front (model_of m) s values a.0 c.if-step-ne-OUTSIDE_RECEIVE.false a.1;
       short = c.takes.ensures.short;
     }
 

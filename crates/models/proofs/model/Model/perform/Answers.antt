@@ -1,4 +1,4 @@
-use Rattle.std.proofs.Common.{◌≡◌, Bool, true, false, cond, eqb, List, map, sym, ap, ◌∙◌, subst}
+use Rattle.std.proofs.Common.{◌≡◌, cond, List, map, sym, ap, ◌∙◌, subst}
 use Rattle.std.proofs.lemmas.Bool.{eq-eqb, ne_eqb}
 use Rattle.values.specs.declared.row.Row.{Row}
 use Rattle.values.specs.Rows.{row_of}
@@ -24,22 +24,22 @@ alone m s given h = ap (λ t. cond t (with_moved (with_moved m s.process s.front
 together : (m : Model) (s : Step) (given : List Val) → s.kind ≡ 1 → with_moved (with_moved m s.process s.front (exchanged m s given)) s.partner s.partner_front (exchanged m s given) ≡ after_step m s given
 together m s given h = ap (λ t. cond t (with_moved (with_moved m s.process s.front (exchanged m s given)) s.partner s.partner_front (exchanged m s given)) (with_moved m s.process s.front (exchanged m s given))) (sym (eq-eqb s.kind 1 h))
 
-pub go-on-requires : goal.go-on-requires
-go-on-requires c =
+pub go_on-requires : goal.go_on-requires
+go_on-requires c =
     let m = model_of c.args.self.now in
     let s = c.args.step.now in
     let given = values_of c.args.values.now in
     let e = as_values _ _ _ c.all-2.ensures.are c.exchanged-exchanged.ensures in
     subst (FrontTakes m s.process s.front) (sym e) (first_takes m s given c.requires.free)
 
-pub go-on-requires-then-step-eq-MEETING : goal.go-on-requires-then-step-eq-MEETING
-go-on-requires-then-step-eq-MEETING c =
+pub go_on-requires-then-step-eq-MEETING : goal.go_on-requires-then-step-eq-MEETING
+go_on-requires-then-step-eq-MEETING c =
     let m = model_of c.args.self.now in
     let s = c.args.step.now in
     let given = values_of c.args.values.now in
     let e = as_values _ _ _ c.all-2.ensures.are c.exchanged-exchanged.ensures in
     let d = as_values _ _ _ c.all-then-step-eq-MEETING.ensures.are c.exchanged-exchanged.ensures in
-    let moved : model_of c.go-on.new.self ≡ with_moved m s.process s.front (exchanged m s given) = c.go-on.ensures ∙ ap (with_moved m s.process s.front) e in
+    let moved : model_of c.go_on.new.self ≡ with_moved m s.process s.front (exchanged m s given) = c.go_on.ensures ∙ ap (with_moved m s.process s.front) e in
     subst (λ x. FrontTakes x s.partner s.partner_front (values_of c.all-then-step-eq-MEETING.result.now)) (sym moved)
     (subst (FrontTakes (with_moved m s.process s.front (exchanged m s given)) s.partner s.partner_front) (sym d) (partner_takes m s given c.requires.free c.if-step-eq-MEETING.true))
 
@@ -50,10 +50,10 @@ returns-then-step-eq-MEETING c =
     let given = values_of c.args.values.now in
     let e = as_values _ _ _ c.all-2.ensures.are c.exchanged-exchanged.ensures in
     let d = as_values _ _ _ c.all-then-step-eq-MEETING.ensures.are c.exchanged-exchanged.ensures in
-    let moved : model_of c.go-on.new.self ≡ with_moved m s.process s.front (exchanged m s given) = c.go-on.ensures ∙ ap (with_moved m s.process s.front) e in
+    let moved : model_of c.go_on.new.self ≡ with_moved m s.process s.front (exchanged m s given) = c.go_on.ensures ∙ ap (with_moved m s.process s.front) e in
     record {
       entered = ap (record_of s) (sym (c.all.ensures.are ∙ c.exchanged-exchanged.ensures)) ∙ sym c.in-Some.ensures;
-      after = c.go-on-then-step-eq-MEETING.ensures ∙ (λ i. with_moved (moved i) s.partner s.partner_front (d i)) ∙ together m s given c.if-step-eq-MEETING.true;
+      after = c.go_on-then-step-eq-MEETING.ensures ∙ (λ i. with_moved (moved i) s.partner s.partner_front (d i)) ∙ together m s given c.if-step-eq-MEETING.true;
     }
 
 pub returns-else-step-eq-MEETING : goal.returns-else-step-eq-MEETING
@@ -64,5 +64,5 @@ returns-else-step-eq-MEETING c =
     let e = as_values _ _ _ c.all-2.ensures.are c.exchanged-exchanged.ensures in
     record {
       entered = ap (record_of s) (sym (c.all.ensures.are ∙ c.exchanged-exchanged.ensures)) ∙ sym c.in-Some.ensures;
-      after = c.go-on.ensures ∙ ap (with_moved m s.process s.front) e ∙ alone m s given c.if-step-eq-MEETING.false;
+      after = c.go_on.ensures ∙ ap (with_moved m s.process s.front) e ∙ alone m s given c.if-step-eq-MEETING.false;
     }

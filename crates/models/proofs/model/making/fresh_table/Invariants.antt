@@ -1,4 +1,4 @@
-use Rattle.std.proofs.Common.{◌≡◌, ℕ, ◌<◌, Ok}
+use Rattle.std.proofs.Common.{◌≡◌, Ok}
 use Rattle.files.specs.Files.{Summary, check_file}
 use Rattle.models.specs.Making.{FreshTable}
 use Rattle.models.proofs.model.making.fresh_table.Given as goal
