@@ -1,5 +1,5 @@
 -- The fronts of a fresh process, and the places of what they leave.
-use Rattle.std.proofs.Common.{◌≡◌, ℕ, zero, suc, ◌≤◌, Bool, true, false, cond, eqb, List, [], ◌∷◌, map, length, take, Some, None, Option, sym, refl, ap, ◌∙◌, subst, arith}
+use Rattle.std.proofs.Common.{◌≡◌, ℕ, zero, suc, ◌≤◌, Bool, true, false, cond, eqb, List, [], ◌∷◌, map, length, take, Some, None, Option, refl, ap, ◌∙◌, subst, arith}
 use Rattle.std.specs.List.{AllByRecursion}
 use Rattle.values.specs.declared.kind.Kind.{Kind}
 use Rattle.values.specs.declared.row.Row.{Row}
@@ -48,5 +48,5 @@ module _ (f : List ℕ) (p : Fresh) (r : Option FrontC) (n : ℕ) where
   pub has_places : (c : Class) → FreshOf f c p → Answers f r (front_numbered n (first_fronts c)) → HasPlaces r
   has_places c h a =
       let s = stands f c p h in
-      let all = class_laws.statements-kept _ c.declarations c.variables (c.statement ∷ []) refl s.kept s.room in
-      answer_places f r _ a (λ y e. class_laws.few y.leaves (picked (FrontKept _ c.declarations c.variables) n _ y all e).room)
+      let all = class_laws.statements_kept _ c.declarations c.variables (c.statement ∷ []) refl s.kept s.room in
+      answer_places f r _ a (λ y e. class_laws.few_left y.leaves (picked (FrontKept _ c.declarations c.variables) n _ y all e).room)

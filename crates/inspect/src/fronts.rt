@@ -11,7 +11,7 @@ use crate::check::{print_check, print_hex_fault};
 use crate::hex::bytes_of;
 use admission::load::examine;
 use classes::fresh::Fresh;
-use processes::finding::front;
+use processes::finding::front_of_places;
 use processes::front::{Action, Front, Sent, Targets};
 use processes::left::Left;
 use values::row::Row;
@@ -23,7 +23,7 @@ fn first_front(file: &[u8], process: Fresh, number: u8) -> Option<Front>
     ensures places { HasPlaces result }
 {
     let variables = &process.rows[0..process.variables as usize];
-    front(file, process.left, variables, number)
+    front_of_places(file, process.left, variables, number)
 }
 
 fn is_offered(file: &[u8], process: Fresh, number: u8) -> bool

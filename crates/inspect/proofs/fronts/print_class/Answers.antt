@@ -1,7 +1,7 @@
 use Rattle.inspect.proofs.fronts.print_class.Goals as goal
 
-pub count-fronts-count-requires : goal.count-fronts-count-requires
-count-fronts-count-requires c = (c.requires.0, c.of-process.ensures c.requires.0 c.requires.1)
+pub count_fronts-count-requires : goal.count_fronts-count-requires
+count_fronts-count-requires c = (c.requires.0, c.of-process.ensures c.requires.0 c.requires.1)
 
-pub first-front-requires : goal.first-front-requires
-first-front-requires c = (c.requires.0, c.of-process.ensures c.requires.0 c.requires.1)
+pub first_front-requires : goal.first_front-requires
+first_front-requires c = (c.requires.0, c.of-process.ensures c.requires.0 c.requires.1)
