@@ -1,4 +1,4 @@
 use Rattle.show.proofs.show.behaviour.+show_behaviour.Given as goal
 
-abbrev pub decreases-show-behaviour : goal.decreases-show-behaviour
-decreases-show-behaviour l = l.left
+abbrev pub decreases-show_behaviour : goal.decreases-show_behaviour
+decreases-show_behaviour l = l.left
