@@ -11,7 +11,7 @@ use Rattle.files.specs.Statements.{exchange_fits, member, distinct, all_below, a
 use Rattle.admission.specs.Conditions.{Declares, Differ, HaveKinds, ExchangeKept}
 use Rattle.admission.proofs.Oks.{both_true, same_from, same_refl}
 
-same_kinds_from : (ks ls : List Kind) → same_kinds ks ls ≡ true → ks ≡ ls
+pub same_kinds_from : (ks ls : List Kind) → same_kinds ks ls ≡ true → ks ≡ ls
 same_kinds_from [] [] e = refl
 same_kinds_from [] (l ∷ ls) e = absurd (let z : ◌≡◌ {A = ℕ} 0 1 = cc in omega arith)
 same_kinds_from (k ∷ ks) [] e = absurd (let z : ◌≡◌ {A = ℕ} 0 1 = cc in omega arith)
@@ -20,7 +20,7 @@ same_kinds_from (k ∷ ks) (l ∷ ls) e =
     let q = same_from k l p.0 in
     let r = same_kinds_from ks ls p.1 in cc
 
-same_kinds_refl : (ks : List Kind) → same_kinds ks ks ≡ true
+pub same_kinds_refl : (ks : List Kind) → same_kinds ks ks ≡ true
 same_kinds_refl [] = refl
 same_kinds_refl (k ∷ ks) = rw (same_refl k, same_kinds_refl ks)
 

@@ -47,7 +47,7 @@ not_2 n = ne_eqb (suc (suc (suc n))) 2 (λ e. omega arith)
 over_1 : (n : ℕ) → leb (suc (suc n)) 1 ≡ false
 over_1 n = lt-leb (suc (suc n)) 1 (omega arith)
 
-row_back : (k n : ℕ) (z : ℤ) → valid (row k n z) ≡ true → row_of (value_of_row (row k n z)) ≡ row k n z
+pub row_back : (k n : ℕ) (z : ℤ) → valid (row k n z) ≡ true → row_of (value_of_row (row k n z)) ≡ row k n z
 row_back zero n z h = absurd (let w : ◌≡◌ {A = ℕ} 0 1 = cc in omega arith)
 row_back (suc zero) zero (pos zero) h = refl
 row_back (suc zero) zero (pos (suc z)) h = absurd (let w : ◌≡◌ {A = ℕ} 0 1 = cc (not_0 z) in omega arith)
@@ -231,7 +231,7 @@ row_valid (boolean None) = refl
 row_valid (boolean (Some false)) = refl
 row_valid (boolean (Some true)) = refl
 
-value_back : (v : Val) → value_of_row (row_of v) ≡ v
+pub value_back : (v : Val) → value_of_row (row_of v) ≡ v
 value_back (integer None) = refl
 value_back (integer (Some z)) = refl
 value_back (boolean None) = refl

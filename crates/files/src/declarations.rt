@@ -57,7 +57,7 @@ fn same_declaration(
 
 impl Declarations {
     // Whether one of them is this one.
-    pub(crate) fn declare(
+    pub fn declare(
         self,
         file: &[u8],
         receives: bool,

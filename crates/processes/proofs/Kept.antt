@@ -15,7 +15,9 @@ use Rattle.files.specs.Statements.{exchange}
 use Rattle.admission.specs.Conditions.{LeafKept, ExprKept, ExprsKept, StmtKept, HaveKinds, Declares, ClassKept, most_fronts}
 use Rattle.processes.specs.Evaluation.{eval, leaf_value}
 use Rattle.processes.specs.Fronts.{Action, internal, store, sends, receives, Front, front, is_true, is_false, offered, fronts, process_fronts}
-use Rattle.processes.specs.Classes.{Part, HasRoom, stored, after, Permitted, Brings, FrontOf, ClassLaws}
+use Rattle.processes.specs.declared.left.Left.{Left}
+use Rattle.processes.specs.Found.{ProcessAt, Standing}
+use Rattle.processes.specs.Classes.{Part, HasRoom, ProcessOf, stored, after, Permitted, Brings, PermittedBy, BringsOver, FrontOf, FrontKept, ClassLaws}
 
 -- parts of parts are parts
 same : (s : Stmt) → Part s s
@@ -71,7 +73,7 @@ by_bound : (t : Bool) (k : Kind) → cond t (Some Boolean) None ≡ Some k → B
 by_bound true k h = some_is h
 by_bound false k h = absurd (let z : ◌≡◌ {A = ℕ} 0 1 = cc in omega arith)
 
-variable_kind : (vs : List Val) (v : ℕ) (k : Kind) → slice_get (map kind_of vs) v ≡ Some k → kind_of (get_or vs v (integer None)) ≡ k
+pub variable_kind : (vs : List Val) (v : ℕ) (k : Kind) → slice_get (map kind_of vs) v ≡ Some k → kind_of (get_or vs v (integer None)) ≡ k
 variable_kind [] v k h = absurd (let z : ◌≡◌ {A = ℕ} 0 1 = cc in omega arith)
 variable_kind (x ∷ vs) zero k h = some_is h
 variable_kind (x ∷ vs) (suc v) k h = variable_kind vs v k h
@@ -129,64 +131,107 @@ all_offered : (P : Front → Type 0) (t : Bool) (x : Front) → P x → AllByRec
 all_offered P true x p = (p, tt)
 all_offered P false x p = tt
 
-module _ (c : Class) (kept : ClassKept c) (vs : List Val) (kinds : map kind_of vs ≡ map kind_of c.variables) where
-  abbrev Own : Stmt → Type 0
-  Own = Part c.statement
+-- statements that are closed under their parts, and keep kinds and declarations
+module _ (ks : List Kind) (ds : List Declaration) (vs : List Val) (kinds : map kind_of vs ≡ ks) (Own : Stmt → Type 0) (own_kept : (s : Stmt) → Own s → StmtKept ks ds s) (own : (t s : Stmt) → Own t → Part t s → Own s) where
+  record Fits (x : Front) : Type 0 where
+    permitted : PermittedBy ks ds x.does
+    goes_on : (got : List Val) → BringsOver ks x.does got → map kind_of (after vs x.does got) ≡ ks
+    leaves_own : AllByRecursion Own x.leaves
+    room : HasRoom x.leaves
+    numbered : x.number < 8
 
-  after_kinds : (a : Action) (got : List Val) → Permitted c a → Brings c a got → map kind_of (after vs a got) ≡ map kind_of c.variables
+  after_kinds : (a : Action) (got : List Val) → PermittedBy ks ds a → BringsOver ks a got → map kind_of (after vs a got) ≡ ks
   after_kinds internal got p b = kinds
-  after_kinds (store v x) got p b = set_kinds vs v x (subst (λ ks. slice_get ks v ≡ Some (kind_of x)) (sym kinds) p) ∙ kinds
+  after_kinds (store v x) got p b = set_kinds vs v x (subst (λ js. slice_get js v ≡ Some (kind_of x)) (sym kinds) p) ∙ kinds
   after_kinds (sends channel message xs) got p b = kinds
-  after_kinds (receives channel message ws) got p b = stored_kinds vs ws got (subst (λ ks. HaveKinds ks ws (map kind_of got)) (sym kinds) b) ∙ kinds
+  after_kinds (receives channel message ws) got p b = stored_kinds vs ws got (subst (λ js. HaveKinds js ws (map kind_of got)) (sym kinds) b) ∙ kinds
 
-  one : (n : ℕ) (a : Action) (l : List Stmt) → n < 8 → Permitted c a → AllByRecursion Own l → HasRoom l → FrontOf c vs (front n a l)
-  one n a l h p q r = record { permitted = p; goes_on = λ got b. record { kinds = after_kinds a got p b; parts = q; room = r }; numbered = h }
+  one : (n : ℕ) (a : Action) (l : List Stmt) → n < 8 → PermittedBy ks ds a → AllByRecursion Own l → HasRoom l → Fits (front n a l)
+  one n a l h p q r = record { permitted = p; goes_on = λ got b. after_kinds a got p b; leaves_own = q; room = r; numbered = h }
 
-  two : (v : Val) (n : ℕ) (x y : List Stmt) → n + 2 ≤ 8 → AllByRecursion Own x → HasRoom x → AllByRecursion Own y → HasRoom y → AllByRecursion (FrontOf c vs) (offered (not (is_false v)) (front n internal x) ++ offered (not (is_true v)) (front (n + 1) internal y))
+  two : (v : Val) (n : ℕ) (x y : List Stmt) → n + 2 ≤ 8 → AllByRecursion Own x → HasRoom x → AllByRecursion Own y → HasRoom y → AllByRecursion Fits (offered (not (is_false v)) (front n internal x) ++ offered (not (is_true v)) (front (n + 1) internal y))
   two v n x y h p r q t =
-      all_join (FrontOf c vs) _ _
-      (all_offered (FrontOf c vs) (not (is_false v)) _ (one n internal x (omega (arith, h)) tt p r))
-      (all_offered (FrontOf c vs) (not (is_true v)) _ (one (n + 1) internal y (omega (arith, h)) tt q t))
+      all_join Fits _ _
+      (all_offered Fits (not (is_false v)) _ (one n internal x (omega (arith, h)) tt p r))
+      (all_offered Fits (not (is_true v)) _ (one (n + 1) internal y (omega (arith, h)) tt q t))
 
-  own_kept : (s : Stmt) → Own s → StmtKept (map kind_of vs) c.declarations s
-  own_kept s p = subst (λ ks. StmtKept ks c.declarations s) (sym kinds) (part_kept _ _ c.statement s kept.statement_kept p)
+  here_kept : (s : Stmt) → Own s → StmtKept (map kind_of vs) ds s
+  here_kept s p = subst (λ js. StmtKept js ds s) (sym kinds) (own_kept s p)
 
-  own : (t s : Stmt) → Own t → Part t s → Own s
-  own t s p q = below c.statement t s p q
-
-  fronts_kept : (n : ℕ) (s : Stmt) (rest : List Stmt) → n + most_fronts s ≤ 8 → Own s → AllByRecursion Own rest → HasRoom (s ∷ rest) → AllByRecursion (FrontOf c vs) (fronts vs n s rest)
-  fronts_kept n skip rest h p q r = (one n internal rest (omega (arith, h)) tt q r.1, tt)
-  fronts_kept n (assign v e) rest h p q r =
-      let k = own_kept (assign v e) p in
+  fronts_fit : (n : ℕ) (s : Stmt) (rest : List Stmt) → n + most_fronts s ≤ 8 → Own s → AllByRecursion Own rest → HasRoom (s ∷ rest) → AllByRecursion Fits (fronts vs n s rest)
+  fronts_fit n skip rest h p q r = (one n internal rest (omega (arith, h)) tt q r.1, tt)
+  fronts_fit n (assign v e) rest h p q r =
+      let k = here_kept (assign v e) p in
       let is : slice_get (map kind_of vs) v ≡ Some (kind_of (eval e vs)) = k.1 ∙ ap (λ j. Some j) (sym (eval_kind vs k.0 e k.2)) in
-      (one n (store v (eval e vs)) rest (omega (arith, h)) (subst (λ ks. slice_get ks v ≡ Some (kind_of (eval e vs))) kinds is) q r.1, tt)
-  fronts_kept n (send channel message es) rest h p q r =
-      let k = own_kept (send channel message es) p in
-      let declared = subst (λ js. Declares c.declarations (exchange false channel message js)) (sym (eval_kinds vs k.1.0 es k.1.1)) k.1.2 in
+      (one n (store v (eval e vs)) rest (omega (arith, h)) (subst (λ js. slice_get js v ≡ Some (kind_of (eval e vs))) kinds is) q r.1, tt)
+  fronts_fit n (send channel message es) rest h p q r =
+      let k = here_kept (send channel message es) p in
+      let declared = subst (λ js. Declares ds (exchange false channel message js)) (sym (eval_kinds vs k.1.0 es k.1.1)) k.1.2 in
       (one n (sends channel message (map (λ e. eval e vs) es)) rest (omega (arith, h)) declared q r.1, tt)
-  fronts_kept n (receive channel message ws) rest h p q r =
-      let k = own_kept (receive channel message ws) p in
-      (one n (receives channel message ws) rest (omega (arith, h)) (k.2.0, subst (λ ks. HaveKinds ks ws k.2.0) kinds k.2.1, k.2.2) q r.1, tt)
-  fronts_kept n (sequence a b) rest h p q r =
-      fronts_kept n a (b ∷ rest) h (own (sequence a b) a p (inr (inl (same a)))) (own (sequence a b) b p (inr (inr (same b))), q) (omega (arith, r.0), (omega (arith, r.0), r.1))
-  fronts_kept n (select a b) rest h p q r =
-      all_join (FrontOf c vs) _ _
-      (fronts_kept n a rest (omega (arith, h)) (own (select a b) a p (inr (inl (same a)))) q (omega (arith, r.0), r.1))
-      (fronts_kept (n + most_fronts a) b rest (omega (arith, h)) (own (select a b) b p (inr (inr (same b)))) q (omega (arith, r.0), r.1))
-  fronts_kept n (guard e a) rest h p q r =
-      all_guarded (FrontOf c vs) (is_true (eval e vs)) _ (fronts_kept n a rest h (own (guard e a) a p (inr (same a))) q (omega (arith, r.0), r.1))
-  fronts_kept n (branch e a b) rest h p q r =
+  fronts_fit n (receive channel message ws) rest h p q r =
+      let k = here_kept (receive channel message ws) p in
+      (one n (receives channel message ws) rest (omega (arith, h)) (k.2.0, subst (λ js. HaveKinds js ws k.2.0) kinds k.2.1, k.2.2) q r.1, tt)
+  fronts_fit n (sequence a b) rest h p q r =
+      fronts_fit n a (b ∷ rest) h (own (sequence a b) a p (inr (inl (same a)))) (own (sequence a b) b p (inr (inr (same b))), q) (omega (arith, r.0), (omega (arith, r.0), r.1))
+  fronts_fit n (select a b) rest h p q r =
+      all_join Fits _ _
+      (fronts_fit n a rest (omega (arith, h)) (own (select a b) a p (inr (inl (same a)))) q (omega (arith, r.0), r.1))
+      (fronts_fit (n + most_fronts a) b rest (omega (arith, h)) (own (select a b) b p (inr (inr (same b)))) q (omega (arith, r.0), r.1))
+  fronts_fit n (guard e a) rest h p q r =
+      all_guarded Fits (is_true (eval e vs)) _ (fronts_fit n a rest h (own (guard e a) a p (inr (same a))) q (omega (arith, r.0), r.1))
+  fronts_fit n (branch e a b) rest h p q r =
       two (eval e vs) n (a ∷ rest) (b ∷ rest) h
       (own (branch e a b) a p (inr (inl (same a))), q) (omega (arith, r.0), r.1)
       (own (branch e a b) b p (inr (inr (same b))), q) (omega (arith, r.0), r.1)
-  fronts_kept n (loop e a) rest h p q r =
+  fronts_fit n (loop e a) rest h p q r =
       two (eval e vs) n (a ∷ loop e a ∷ rest) rest h
       (own (loop e a) a p (inr (same a)), (p, q)) (omega (arith, r.0), (r.0, r.1))
       q r.1
 
-  left_kept : (left : List Stmt) → AllByRecursion Own left → HasRoom left → AllByRecursion (FrontOf c vs) (process_fronts vs left)
-  left_kept [] q r = tt
-  left_kept (s ∷ rest) q r = fronts_kept 0 s rest (omega (arith, few_fronts _ _ s (own_kept s q.0))) q.0 q.1 r
+  left_fits : (left : List Stmt) → AllByRecursion Own left → HasRoom left → AllByRecursion Fits (process_fronts vs left)
+  left_fits [] q r = tt
+  left_fits (s ∷ rest) q r = fronts_fit 0 s rest (omega (arith, few_fronts _ _ s (here_kept s q.0))) q.0 q.1 r
+
+all_map : {A : Type 0} (P Q : A → Type 0) → ((x : A) → P x → Q x) → (xs : List A) → AllByRecursion P xs → AllByRecursion Q xs
+all_map P Q f [] a = tt
+all_map P Q f (x ∷ xs) a = (f x a.0, all_map P Q f xs a.1)
+
+-- over the kinds and declarations of a class, and in a process of it
+pub permitted_in : (c : Class) (a : Action) → PermittedBy (map kind_of c.variables) c.declarations a → Permitted c a
+permitted_in c internal p = p
+permitted_in c (store v x) p = p
+permitted_in c (sends channel message xs) p = p
+permitted_in c (receives channel message ws) p = p
+
+pub permitted_by : (c : Class) (a : Action) → Permitted c a → PermittedBy (map kind_of c.variables) c.declarations a
+permitted_by c internal p = p
+permitted_by c (store v x) p = p
+permitted_by c (sends channel message xs) p = p
+permitted_by c (receives channel message ws) p = p
+
+pub brings_in : (c : Class) (a : Action) (got : List Val) → BringsOver (map kind_of c.variables) a got → Brings c a got
+brings_in c internal got b = b
+brings_in c (store v x) got b = b
+brings_in c (sends channel message xs) got b = b
+brings_in c (receives channel message ws) got b = b
+
+pub brings_over : (c : Class) (a : Action) (got : List Val) → Brings c a got → BringsOver (map kind_of c.variables) a got
+brings_over c internal got b = b
+brings_over c (store v x) got b = b
+brings_over c (sends channel message xs) got b = b
+brings_over c (receives channel message ws) got b = b
+
+class_fronts : (c : Class) (vs : List Val) (left : List Stmt) → ClassKept c → ProcessOf c vs left → AllByRecursion (FrontOf c vs) (process_fronts vs left)
+class_fronts c vs left k p =
+    let ks = map kind_of c.variables in
+    let Own : Stmt → Type 0 = Part c.statement in
+    let fitting = left_fits ks c.declarations vs p.kinds Own (λ s. part_kept ks c.declarations c.statement s k.statement_kept) (below c.statement) left p.parts p.room in
+    all_map _ (FrontOf c vs) (λ x h. record { permitted = permitted_in c x.does h.permitted; goes_on = λ got b. record { kinds = h.goes_on got (brings_over c x.does got b); parts = h.leaves_own; room = h.room }; numbered = h.numbered }) _ fitting
+
+kept_fronts : (ks : List Kind) (ds : List Declaration) (vs : List Val) (left : List Stmt) → map kind_of vs ≡ ks → AllByRecursion (StmtKept ks ds) left → HasRoom left → AllByRecursion (FrontKept ks ds vs) (process_fronts vs left)
+kept_fronts ks ds vs left e q r =
+    all_map _ (FrontKept ks ds vs) (λ x h. record { permitted = h.permitted; kinds = h.goes_on; leaves_kept = h.leaves_own; room = h.room; numbered = h.numbered }) _
+    (left_fits ks ds vs e (StmtKept ks ds) (λ s h. h) (part_kept ks ds) left q r)
 
 pub some_deep : (s : Stmt) → 1 ≤ stmt_depth s
 some_deep skip = omega arith
@@ -206,6 +251,16 @@ few (s ∷ rest) r = omega (arith, r.0, some_deep s)
 pub class_laws : ClassLaws
 class_laws = record {
   fresh = λ c k. record { kinds = refl; parts = (same c.statement, tt); room = (omega (arith, k.statement_deep), tt) };
-  fronts_kept = λ c vs left k p. left_kept c k vs p.kinds left p.parts p.room;
+  fronts_kept = class_fronts;
+  statements_kept = kept_fronts;
   few = λ c vs left p. few left p.room;
+  few_left = few;
+}
+
+pub process_stands : (f : List ℕ) (left : Left) (vs : List Val) (c : Class) (ss : List Stmt) → ProcessAt f left vs c ss → Standing f left (map kind_of c.variables) c.declarations ss
+process_stands f left vs c ss h = record {
+  short = h.short;
+  places = h.places;
+  kept = all_map (Part c.statement) _ (λ s. part_kept _ _ c.statement s h.class_kept.statement_kept) ss h.of_class.parts;
+  room = h.of_class.room;
 }

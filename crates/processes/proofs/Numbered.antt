@@ -6,7 +6,7 @@ use Rattle.admission.specs.Conditions.{most_fronts}
 use Rattle.processes.specs.Evaluation.{eval}
 use Rattle.processes.specs.Fronts.{Front, front, internal, is_true, is_false, offered, fronts}
 use Rattle.processes.specs.Laws.{Ascend, FrontLaws}
-use Rattle.processes.proofs.Kept.{class_laws}
+use Rattle.processes.proofs.Kept.{class_laws, process_stands}
 use Rattle.processes.proofs.Waited.{fronts_and_waiting}
 
 -- a list that ends below a number may be followed by one that begins there
@@ -39,4 +39,4 @@ numbered vs n (branch e a b) rest = two_ways (eval e vs) n (front n internal (a 
 numbered vs n (loop e a) rest = two_ways (eval e vs) n (front n internal (a ∷ loop e a ∷ rest)) (front (n + 1) internal rest) refl refl
 
 pub laws : FrontLaws
-laws = record { numbered = numbered; waiting = fronts_and_waiting; classes = class_laws; unknown_guard = λ vs s rest. refl }
+laws = record { numbered = numbered; waiting = fronts_and_waiting; classes = class_laws; process_stands = process_stands; unknown_guard = λ vs s rest. refl }

@@ -4,10 +4,11 @@ use Rattle.std.proofs.lemmas.List.{take_at}
 use Rattle.commands.specs.Bytes.{padded}
 use Rattle.values.specs.declared.row.Row.{Row}
 use Rattle.values.specs.Rows.{value_of_row}
-use Rattle.values.specs.Values.{Val, kind_of}
+use Rattle.values.specs.declared.kind.Kind.{Kind}
+use Rattle.values.specs.Values.{Val}
 use Rattle.commands.specs.Depths.{stmt_depth}
 use Rattle.commands.specs.Stands.{StmtAt}
-use Rattle.commands.specs.Trees.{Expr, Stmt, skip, assign, send, receive, sequence, select, guard, branch, loop, Class}
+use Rattle.commands.specs.Trees.{Expr, Stmt, skip, assign, send, receive, sequence, select, guard, branch, loop, Declaration}
 use Rattle.admission.specs.Conditions.{most_fronts}
 use Rattle.processes.specs.declared.front.Action.TheVariants.{Internal, Store, Send, Receive}
 use Rattle.processes.specs.declared.front.Front.{Front as FrontC}
@@ -15,10 +16,10 @@ use Rattle.processes.specs.declared.front.Sent.{Sent}
 use Rattle.processes.specs.declared.front.Targets.{Targets}
 use Rattle.processes.specs.declared.left.Left.{Left}
 use Rattle.processes.specs.Evaluation.{eval}
-use Rattle.processes.specs.Found.{Answers, ProcessAt, StmtsAt, front_numbered, one_front, two_fronts, values_in, variables_in, Ready}
+use Rattle.processes.specs.Found.{Answers, StmtsAt, front_numbered, one_front, two_fronts, values_in, variables_in, Ready, Standing}
 use Rattle.processes.specs.Fronts.{internal, store, sends, receives, front, is_true, fronts}
 use Rattle.processes.specs.Places.{backwards, places_of}
-use Rattle.processes.proofs.Kept.{part_kept, class_laws}
+use Rattle.processes.proofs.Kept.{class_laws}
 use Rattle.processes.proofs.Numbered.{numbered}
 use Rattle.processes.proofs.Numbers.{in_first, in_second, one_found, two_found}
 
@@ -46,24 +47,14 @@ module _ (f : List ℕ) where
   counted (suc n) ps (s ∷ ss) h = ap suc (counted n ps ss h.1)
 
   -- what remains of a process, by its first statement
-  pub process_short : (left : Left) (vs : List Val) (c : Class) (ss : List Stmt) → ProcessAt f left vs c ss → left.count ≤ 32
-  process_short left vs c ss h = omega (arith, counted left.count left.places ss h.places, class_laws.few c vs ss h.of_class)
+  pub standing_short : (left : Left) (ks : List Kind) (ds : List Declaration) (ss : List Stmt) → Standing f left ks ds ss → left.count ≤ 32
+  standing_short left ks ds ss h = omega (arith, counted left.count left.places ss h.places, class_laws.few_left ss h.room)
 
-  pub process_ready : (left : Left) (vs : List Val) (c : Class) (at : ℕ) (rest : Left) (ss : List Stmt) → ProcessAt f left vs c ss → at ∷ places_of rest ≡ places_of left → (s : Stmt) × (after : List Stmt) × (ss ≡ s ∷ after) × Ready f at rest s after
-  process_ready left vs c at rest [] h e = absurd (subst (λ ps. StmtsAt f ps []) (sym e) h.places)
-  process_ready left vs c at rest (s ∷ after) h e =
-      let p = subst (λ ps. StmtsAt f ps (s ∷ after)) (sym e) h.places in (
-        s,
-        after,
-        refl,
-        record {
-          short = h.short;
-          here = p.0;
-          behind = p.1;
-          kept = (map kind_of c.variables, c.declarations, part_kept _ _ c.statement s h.class_kept.statement_kept h.of_class.parts.0);
-          room = h.of_class.room;
-        },
-      )
+  pub standing_ready : (left : Left) (ks : List Kind) (ds : List Declaration) (at : ℕ) (rest : Left) (ss : List Stmt) → Standing f left ks ds ss → at ∷ places_of rest ≡ places_of left → (s : Stmt) × (after : List Stmt) × (ss ≡ s ∷ after) × Ready f at rest s after
+  standing_ready left ks ds at rest [] h e = absurd (subst (λ ps. StmtsAt f ps []) (sym e) h.places)
+  standing_ready left ks ds at rest (s ∷ after) h e =
+      let p = subst (λ ps. StmtsAt f ps (s ∷ after)) (sym e) h.places in
+      (s, after, refl, record { short = h.short; here = p.0; behind = p.1; kept = (ks, ds, h.kept.0); room = h.room })
 
   module _ (at : ℕ) (rest : Left) (ss : List Stmt) where
     -- two more places are free where a statement has parts

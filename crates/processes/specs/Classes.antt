@@ -4,9 +4,9 @@ use Rattle.std.specs.List.{slice_get, AllByRecursion}
 use Rattle.values.specs.declared.kind.Kind.{Kind}
 use Rattle.values.specs.Values.{Val, kind_of}
 use Rattle.commands.specs.Depths.{stmt_depth}
-use Rattle.commands.specs.Trees.{Stmt, skip, assign, send, receive, sequence, select, guard, branch, loop, Class}
+use Rattle.commands.specs.Trees.{Stmt, skip, assign, send, receive, sequence, select, guard, branch, loop, Declaration, Class}
 use Rattle.files.specs.Statements.{exchange}
-use Rattle.admission.specs.Conditions.{Declares, HaveKinds, ClassKept}
+use Rattle.admission.specs.Conditions.{Declares, HaveKinds, StmtKept, ClassKept}
 use Rattle.processes.specs.Fronts.{Action, internal, store, sends, receives, Front, process_fronts}
 
 -- the second is the first or a statement in it
@@ -64,8 +64,32 @@ pub record FrontOf (c : Class) (vs : List Val) (x : Front) : Type 0 where
   pub goes_on : (got : List Val) → Brings c x.does got → ProcessOf c (after vs x.does got) x.leaves
   pub numbered : x.number < 8
 
+-- the same over kinds of variables and declarations, whatever class they are of
+abbrev pub PermittedBy : List Kind → List Declaration → Action → Type 0
+PermittedBy ks ds internal = Unit {0}
+PermittedBy ks ds (store v x) = slice_get ks v ≡ Some (kind_of x)
+PermittedBy ks ds (sends channel message xs) = Declares ds (exchange false channel message (map kind_of xs))
+PermittedBy ks ds (receives channel message ws) = (js : List Kind) × HaveKinds ks ws js × Declares ds (exchange true channel message js)
+
+abbrev pub BringsOver : List Kind → Action → List Val → Type 0
+BringsOver ks internal got = Unit {0}
+BringsOver ks (store v x) got = Unit {0}
+BringsOver ks (sends channel message xs) got = Unit {0}
+BringsOver ks (receives channel message ws) got = HaveKinds ks ws (map kind_of got)
+
+-- a front of statements that each keep these kinds and declarations
+pub record FrontKept (ks : List Kind) (ds : List Declaration) (vs : List Val) (x : Front) : Type 0 where
+  pub permitted : PermittedBy ks ds x.does
+  pub kinds : (got : List Val) → BringsOver ks x.does got → map kind_of (after vs x.does got) ≡ ks
+  pub leaves_kept : AllByRecursion (StmtKept ks ds) x.leaves
+  pub room : HasRoom x.leaves
+  pub numbered : x.number < 8
+
 pub record ClassLaws : Type 0 where
   pub fresh : (c : Class) → ClassKept c → ProcessOf c c.variables (c.statement ∷ [])
   pub fronts_kept : (c : Class) (vs : List Val) (left : List Stmt) → ClassKept c → ProcessOf c vs left → AllByRecursion (FrontOf c vs) (process_fronts vs left)
   -- what remains of a process fits in 32 places
   pub few : (c : Class) (vs : List Val) (left : List Stmt) → ProcessOf c vs left → length left ≤ 32
+  pub few_left : (left : List Stmt) → HasRoom left → length left ≤ 32
+  -- the same of statements that each keep these kinds and declarations
+  pub statements_kept : (ks : List Kind) (ds : List Declaration) (vs : List Val) (left : List Stmt) → map kind_of vs ≡ ks → AllByRecursion (StmtKept ks ds) left → HasRoom left → AllByRecursion (FrontKept ks ds vs) (process_fronts vs left)

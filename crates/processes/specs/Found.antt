@@ -1,5 +1,6 @@
 -- How a front in the code stands for a front of trees.
 use Rattle.std.specs.Prelude.{◌≡◌, ℕ, ◌≤◌, cond, not, List, [], ◌∷◌, map, length, take, Some, None, Option, ◌==◌}
+use Rattle.std.specs.List.{AllByRecursion}
 use Rattle.values.specs.declared.kind.Kind.{Kind}
 use Rattle.values.specs.Rows.{value_of_row}
 use Rattle.values.specs.Values.{Val}
@@ -64,6 +65,13 @@ pub record ProcessAt (f : List ℕ) (left : Left) (vs : List Val) (c : Class) (s
   pub class_kept : ClassKept c
   pub of_class : ProcessOf c vs ss
   pub places : StmtsAt f (places_of left) ss
+
+-- what remains of a process, by its places: statements that each keep these kinds of variables and these declarations
+pub record Standing (f : List ℕ) (left : Left) (ks : List Kind) (ds : List Declaration) (ss : List Stmt) : Type 0 where
+  pub short : length f ≤ 4096
+  pub places : StmtsAt f (places_of left) ss
+  pub kept : AllByRecursion (StmtKept ks ds) ss
+  pub room : HasRoom ss
 
 -- one front, or the two of a condition, by number
 abbrev pub one_front : ℕ → ActionC → Left → Option FrontC

@@ -2,9 +2,10 @@
 ghost use Rattle.std.specs.Prelude.{◌≡◌, ℕ, ◌+◌, true, false, List};
 ghost use Rattle.values.specs.Values.{meaning};
 ghost use Rattle.processes.specs.Fronts.{is_true, is_false, fronts, process_fronts};
-ghost use Rattle.commands.specs.Trees.{Stmt, Class};
+ghost use Rattle.values.specs.declared.kind.Kind.{Kind};
+ghost use Rattle.commands.specs.Trees.{Stmt, Declaration, Class};
 ghost use Rattle.processes.specs.Evaluation.{values_of};
-ghost use Rattle.processes.specs.Found.{one_front, two_fronts, front_numbered, Answers, Ready, ProcessAt};
+ghost use Rattle.processes.specs.Found.{one_front, two_fronts, front_numbered, Answers, Ready, ProcessAt, Standing};
 
 use crate::counting::most_fronts;
 use crate::evaluation::evaluate;
@@ -116,6 +117,14 @@ fn front_at(file: &[u8], at: usize, rest: Left, variables: &[Row], number: u8) -
 pub fn front(file: &[u8], left: Left, variables: &[Row], number: u8) -> Option<Front>
     requires { (c : Class) × (ss : List Stmt) × ProcessAt file.now left (values_of variables.now) c ss }
     ensures { (c : Class) (ss : List Stmt) → ProcessAt file.now left (values_of variables.now) c ss → Answers file.now result (front_numbered number (process_fronts (values_of variables.now) ss)) }
+{
+    front_of_places(file, left, variables, number)
+}
+
+// The same of places where statements stand, whatever class they are of.
+pub fn front_of_places(file: &[u8], left: Left, variables: &[Row], number: u8) -> Option<Front>
+    requires { (ks : List Kind) × (ds : List Declaration) × (ss : List Stmt) × Standing file.now left ks ds ss }
+    ensures { (ks : List Kind) (ds : List Declaration) (ss : List Stmt) → Standing file.now left ks ds ss → Answers file.now result (front_numbered number (process_fronts (values_of variables.now) ss)) }
 {
     match left.split() {
         Some((at, rest)) => front_at(file, at as usize, rest, variables, number),

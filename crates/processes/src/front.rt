@@ -1,10 +1,10 @@
 // A front: what a process does next, and what it leaves.
-ghost use Rattle.std.specs.Prelude.{◌≡◌, ◌+◌, ◌<◌, ◌≤◌, List, [], ◌∷◌, ◌++◌, map, length};
+ghost use Rattle.std.specs.Prelude.{◌≡◌, ◌+◌, ◌<◌, ◌≤◌, List, [], ◌∷◌, ◌++◌, map, length, take};
 ghost use Rattle.values.specs.Values.{meaning};
 ghost use Rattle.commands.specs.Stands.{ExprsAt};
 ghost use Rattle.commands.specs.Trees.{Expr};
 ghost use Rattle.processes.specs.Evaluation.{eval, values_of};
-ghost use Rattle.processes.specs.Found.{values_in};
+ghost use Rattle.processes.specs.Found.{values_in, variables_in};
 
 use crate::evaluation::evaluate;
 use crate::left::Left;
@@ -55,6 +55,18 @@ impl Sent {
         }
     }
 
+    // The values as rows.
+    pub fn all(&self) -> &[Row]
+        ensures are { result.now ≡ take self.now.count self.now.rows }
+        ensures few { length result.now ≤ 4 }
+    {
+        if self.count < 4 {
+            &self.rows[0..self.count as usize]
+        } else {
+            &self.rows[0..]
+        }
+    }
+
     // One value more.
     fn push(&mut self, value: Value)
         requires { self.old.count < 4 }
@@ -63,6 +75,20 @@ impl Sent {
     {
         self.rows[self.count as usize] = Row::of(value);
         self.count += 1;
+    }
+}
+
+impl Targets {
+    // The variables.
+    pub fn all(&self) -> &[u8]
+        ensures are { result.now ≡ variables_in self.now }
+        ensures few { length result.now ≤ 4 }
+    {
+        if self.count < 4 {
+            &self.variables[0..self.count as usize]
+        } else {
+            &self.variables[0..]
+        }
     }
 }
 

@@ -1,5 +1,5 @@
 -- Step records.
-use Rattle.std.specs.Prelude.{ℕ, Bool, ◌&&◌, ◌||◌, List, [], ◌∷◌, ◌++◌, codes, decimal, ◌==◌}
+use Rattle.std.specs.Prelude.{ℕ, Bool, ◌&&◌, ◌||◌, List, ◌++◌, codes, decimal, ◌==◌}
 use Rattle.records.specs.declared.step.Step.{Step}
 
 -- a field that does not apply holds 255

@@ -1,7 +1,7 @@
 // A list of stated room over memory that the caller lends, for any kind of record.
 ghost use Rattle.std.specs.Prelude.{◌≡◌, ◌+◌, ◌<◌, ◌≤◌, [], ◌∷◌, ◌++◌, length, take, if◌then◌else◌, MatchOption, nat_lt, slice_set};
 ghost use Rattle.std.specs.List.{slice_get};
-ghost use Rattle.records.specs.Lists.{items, room_of};
+ghost use Rattle.records.specs.Lists.{items, room_of, optional, Room, Grown};
 
 #[derive(Drop)]
 pub struct RecordList<'a, T> {
@@ -60,6 +60,16 @@ impl<'a, T: Copy> RecordList<'a, T> {
                 true
             }
             None => false,
+        }
+    }
+
+    // Appends a record where there is one.
+    pub fn append_some(&mut self, x: Option<T>)
+        requires { Room self.old (optional x) }
+        ensures { Grown self.old self.new (optional x) }
+    {
+        if let Some(record) = x {
+            self.append(record);
         }
     }
 

@@ -1,0 +1,24 @@
+-- The values that an action sends, and the kinds that it asks for.
+use Rattle.std.specs.Prelude.{List, [], take}
+use Rattle.values.specs.declared.kind.Kind.{Kind}
+use Rattle.values.specs.declared.row.Row.{Row}
+use Rattle.values.specs.Values.{Val}
+use Rattle.processes.specs.declared.front.Sent.{Sent}
+use Rattle.processes.specs.Fronts.{Action, internal, store, sends, receives}
+use Rattle.steps.specs.Steps.{target_kinds}
+
+abbrev pub wanted_by : List Val → Action → List Kind
+wanted_by vs internal = []
+wanted_by vs (store v x) = []
+wanted_by vs (sends c m xs) = []
+wanted_by vs (receives c m ws) = target_kinds vs ws
+
+abbrev pub sent_by : Action → List Val
+sent_by internal = []
+sent_by (store v x) = []
+sent_by (sends c m xs) = xs
+sent_by (receives c m ws) = []
+
+-- the rows of some values
+abbrev pub rows_in : Sent → List Row
+rows_in s = take s.count s.rows
