@@ -289,6 +289,15 @@ def check_behaviour():
     ok(len(lists[2]) == 2 and lists[6] == [], "steps of states 2 and 6")
     e = Engine(); e.load(SITE); e.take((3, 0, 0, 255, 255, 0, 0), [(1, 0, 0)], j)
     ok([s[2] for s in steps(e.model)] == [0, 1], "unknown condition offers both")
+    # the command fronts
+    gap = enc_file([([], [], ("SEL", ("GUARD", ("BOOL", 2), ("SKIP",)), ("DO", ("BOOL", 2), ("SKIP",))))], ("PROC", 0))
+    blocks = re.findall(r"```\n(.*?)\n```", section(t, "The command `fronts`"), re.S)
+    ok([b.split("\n") for b in blocks] == [shell_fronts(hexs(x).split()) for x in (SITE, gap)], "answers of fronts")
+    # the command steps
+    apart = enc_file([([], [(0, 1, 0, ())], ("SEND", 1, 0, [])), ([], [(1, 1, 0, ())], ("RECV", 1, 0, []))],
+                     ("PAR", ("RENAME", 1, 2, ("PROC", 0)), ("PROC", 1)))
+    blocks = re.findall(r"```\n(.*?)\n```", section(t, "The command `steps`"), re.S)
+    ok([b.split("\n") for b in blocks] == [shell_steps(hexs(x).split()) for x in (SITE, put(A, 55, 0), apart)], "answers of steps")
 
 def check_calls():
     t = page("CALLS.md")

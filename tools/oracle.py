@@ -605,6 +605,37 @@ def shell_show(words):
     walk(f.behaviour, 1)
     return out
 
+def front_line(front):
+    number, action, left = front
+    words = ["internal"] if action[0] == "internal" else list(action[:3])
+    if action[0] == "set": words[2] = show(action[2])
+    if action[0] == "send": words += [show(v) for v in action[3]]
+    if action[0] == "receive": words += list(action[3])
+    return " ".join(str(w) for w in [number] + words + ["leaves"] + [s.place for s in left])
+
+def shell_fronts(words):
+    try:
+        f = check(hex_words(words))
+    except Wrong as e:
+        return [str(e)]
+    except Fault as e:
+        return ["refused %d place %d layer %d" % e.t]
+    out = []
+    for i, c in enumerate(f.classes):
+        fs = fronts_of(c.statement, 0, (), list(c.vars))
+        out.append("class %d fronts %d" % (i, len(fs)))
+        out += [front_line(x) for x in fs]
+    return out
+
+def shell_steps(words):
+    try:
+        found = steps(Model(check(hex_words(words))))
+    except Wrong as e:
+        return [str(e)]
+    except Fault as e:
+        return ["refused %d place %d layer %d" % e.t]
+    return ["listed %d" % len(found)] + [" ".join(str(n) for n in s) for s in found]
+
 def shell(lines):
     lines = iter(lines)
     for line in lines:

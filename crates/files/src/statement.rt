@@ -3,7 +3,7 @@ ghost use Rattle.std.specs.Prelude.{◌≡◌, ◌+◌, ◌*◌, ◌^◌, ◌<�
 ghost use Rattle.files.specs.Expressions.{check_expression};
 ghost use Rattle.files.specs.Heads.{kinds_at, declarations_at};
 ghost use Rattle.files.specs.Scopes.{Within};
-ghost use Rattle.files.specs.Statements.{check_statement, check_test, placed as placed_at_lem, few_fronts};
+ghost use Rattle.files.specs.Statements.{check_statement, check_test, placed as placed_at, few_fronts};
 
 use crate::checked::{ask, fault};
 use crate::exchange::{Scope, check_receive, check_send, check_set};
@@ -35,7 +35,7 @@ fn check_test(file: &[u8], at: usize, left: u8, variables: Variables) -> Result<
 
 // Whether a part ends at the place operand of the command at `at`.
 fn placed(at: usize, end: usize, place: u16) -> Result<(), LoadFault>
-    ensures { result ≡ placed_at_lem at end place }
+    ensures { result ≡ placed_at at end place }
 {
     ask(
         end == place as usize,

@@ -101,48 +101,48 @@ module _ (f : List ℕ) where
     }
 
     module _ (vs : List Val) (n : ℕ) (r : Option FrontC) (s : Stmt) (k : ℕ) where
-      abbrev pub Found_at : Type 0
-      Found_at = Answers f r (front_numbered (k + n) (fronts vs k s ss))
+      abbrev pub FoundAt : Type 0
+      FoundAt = Answers f r (front_numbered (k + n) (fronts vs k s ss))
 
-      pub skip_found : r ≡ one_front n Internal rest → s ≡ skip → Ready f at rest s ss → Found_at
+      pub skip_found : r ≡ one_front n Internal rest → s ≡ skip → Ready f at rest s ss → FoundAt
       skip_found e p h = rw (e, p) (one_found f k n Internal rest (front k internal ss) refl (record { does = refl; leaves = h.behind }))
 
-      pub set_found : (v : ℕ) (row : Row) (x : Expr) → r ≡ one_front n (Store v row) rest → s ≡ assign v x → value_of_row row ≡ eval x vs → Ready f at rest s ss → Found_at
+      pub set_found : (v : ℕ) (row : Row) (x : Expr) → r ≡ one_front n (Store v row) rest → s ≡ assign v x → value_of_row row ≡ eval x vs → Ready f at rest s ss → FoundAt
       set_found v row x e p q h = rw (e, p) (one_found f k n (Store v row) rest (front k (store v (eval x vs)) ss) refl (record { does = ap (λ w. store v w) q; leaves = h.behind }))
 
-      pub send_found : (c m : ℕ) (sent : Sent) (es : List Expr) → r ≡ one_front n (Send c m sent) rest → s ≡ send c m es → values_in sent ≡ map (λ e. eval e vs) es → Ready f at rest s ss → Found_at
+      pub send_found : (c m : ℕ) (sent : Sent) (es : List Expr) → r ≡ one_front n (Send c m sent) rest → s ≡ send c m es → values_in sent ≡ map (λ e. eval e vs) es → Ready f at rest s ss → FoundAt
       send_found c m sent es e p q h = rw (e, p) (one_found f k n (Send c m sent) rest (front k (sends c m (map (λ e. eval e vs) es)) ss) refl (record { does = ap (λ w. sends c m w) q; leaves = h.behind }))
 
-      pub receive_found : (c m : ℕ) (targets : Targets) (ws : List ℕ) → r ≡ one_front n (Receive c m targets) rest → s ≡ receive c m ws → variables_in targets ≡ ws → Ready f at rest s ss → Found_at
+      pub receive_found : (c m : ℕ) (targets : Targets) (ws : List ℕ) → r ≡ one_front n (Receive c m targets) rest → s ≡ receive c m ws → variables_in targets ≡ ws → Ready f at rest s ss → FoundAt
       receive_found c m targets ws e p q h = rw (e, p) (one_found f k n (Receive c m targets) rest (front k (receives c m ws) ss) refl (record { does = ap (λ w. receives c m w) q; leaves = h.behind }))
 
-      pub sequence_found : (a b : Stmt) → s ≡ sequence a b → Answers f r (front_numbered (k + n) (fronts vs k a (b ∷ ss))) → Found_at
+      pub sequence_found : (a b : Stmt) → s ≡ sequence a b → Answers f r (front_numbered (k + n) (fronts vs k a (b ∷ ss))) → FoundAt
       sequence_found a b p i = rw p i
 
-      pub first_found : (a b : Stmt) → s ≡ select a b → n < most_fronts a → Answers f r (front_numbered (k + n) (fronts vs k a ss)) → Found_at
+      pub first_found : (a b : Stmt) → s ≡ select a b → n < most_fronts a → Answers f r (front_numbered (k + n) (fronts vs k a ss)) → FoundAt
       first_found a b p l i =
           let here = in_first (k + n) (k + most_fronts a) (k + most_fronts a + most_fronts b) (fronts vs k a ss) (fronts vs (k + most_fronts a) b ss) (numbered vs (k + most_fronts a) b ss) (omega (arith, l)) in
           rw p (subst (Answers f r) (sym here) i)
 
-      pub second_found : (a b : Stmt) (m : ℕ) → s ≡ select a b → m ≡ most_fronts a → m ≤ n → Answers f r (front_numbered (k + most_fronts a + (n - m)) (fronts vs (k + most_fronts a) b ss)) → Found_at
+      pub second_found : (a b : Stmt) (m : ℕ) → s ≡ select a b → m ≡ most_fronts a → m ≤ n → Answers f r (front_numbered (k + most_fronts a + (n - m)) (fronts vs (k + most_fronts a) b ss)) → FoundAt
       second_found a b m p is l i =
           let here = in_second (k + n) k (k + most_fronts a) (fronts vs k a ss) (fronts vs (k + most_fronts a) b ss) (numbered vs k a ss) (omega (arith, is, l)) in
           let same : k + most_fronts a + (n - m) ≡ k + n = omega (arith, is, l) in
           rw p (subst (Answers f r) (sym here) (subst (λ j. Answers f r (front_numbered j (fronts vs (k + most_fronts a) b ss))) same i))
 
-      pub open_found : (e : Expr) (a : Stmt) → s ≡ guard e a → is_true (eval e vs) ≡ true → Answers f r (front_numbered (k + n) (fronts vs k a ss)) → Found_at
+      pub open_found : (e : Expr) (a : Stmt) → s ≡ guard e a → is_true (eval e vs) ≡ true → Answers f r (front_numbered (k + n) (fronts vs k a ss)) → FoundAt
       open_found e a p t i = rw (p, t) i
 
-      pub closed_found : (e : Expr) (a : Stmt) → s ≡ guard e a → is_true (eval e vs) ≡ false → r ≡ None → Found_at
+      pub closed_found : (e : Expr) (a : Stmt) → s ≡ guard e a → is_true (eval e vs) ≡ false → r ≡ None → FoundAt
       closed_found e a p t i = rw (p, t, i) tt
 
-      pub branch_found : (v : Val) (e : Expr) (a b : Stmt) (i j : ℕ) (x y : Left) → r ≡ two_fronts v n x y → v ≡ eval e vs → s ≡ branch e a b → places_of x ≡ i ∷ places_of rest → places_of y ≡ j ∷ places_of rest → StmtAt f i a → StmtAt f j b → Ready f at rest s ss → Found_at
+      pub branch_found : (v : Val) (e : Expr) (a b : Stmt) (i j : ℕ) (x y : Left) → r ≡ two_fronts v n x y → v ≡ eval e vs → s ≡ branch e a b → places_of x ≡ i ∷ places_of rest → places_of y ≡ j ∷ places_of rest → StmtAt f i a → StmtAt f j b → Ready f at rest s ss → FoundAt
       branch_found v e a b i j x y is w p g d sa sb h =
           rw (is, w, p) (two_found f k x y (front k internal (a ∷ ss)) (front (k + 1) internal (b ∷ ss)) refl refl
           (record { does = refl; leaves = before i x a g sa h.behind })
           (record { does = refl; leaves = before j y b d sb h.behind }) n (eval e vs))
 
-      pub loop_found : (v : Val) (e : Expr) (a : Stmt) (i : ℕ) (again x : Left) → r ≡ two_fronts v n x rest → v ≡ eval e vs → s ≡ loop e a → places_of again ≡ at ∷ places_of rest → places_of x ≡ i ∷ places_of again → StmtAt f i a → Ready f at rest s ss → Found_at
+      pub loop_found : (v : Val) (e : Expr) (a : Stmt) (i : ℕ) (again x : Left) → r ≡ two_fronts v n x rest → v ≡ eval e vs → s ≡ loop e a → places_of again ≡ at ∷ places_of rest → places_of x ≡ i ∷ places_of again → StmtAt f i a → Ready f at rest s ss → FoundAt
       loop_found v e a i again x is w p g d sa h =
           let both : StmtsAt f (i ∷ at ∷ places_of rest) (a ∷ s ∷ ss) = (sa, (h.here, h.behind)) in
           let all : StmtsAt f (places_of x) (a ∷ loop e a ∷ ss) = subst (λ u. StmtsAt f (places_of x) (a ∷ u ∷ ss)) p (subst (λ ps. StmtsAt f ps (a ∷ s ∷ ss)) (sym (d ∙ ap (λ ps. i ∷ ps) g)) both) in
