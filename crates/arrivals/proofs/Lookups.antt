@@ -1,10 +1,11 @@
 -- The table has every arrival.
-use Rattle.std.proofs.Common.{◌≡◌, ℕ, ◌+◌, ◌*◌, ◌/◌, ◌%◌, ◌<◌, Bool, true, false, cond, eqb, get_or, IfSome, Some, None, Option, sym, refl, ap, ◌∙◌, subst, arith, lt-ltb, ne_eqb}
+use Rattle.std.proofs.Common.{◌≡◌, ℕ, ◌+◌, ◌*◌, ◌/◌, ◌%◌, ◌<◌, Bool, true, false, cond, eqb, List, get_or, IfSome, Some, None, Option, sym, ◌∙◌, subst, arith, lt-ltb, ne_eqb}
 use Rattle.std.proofs.lemmas.Nat.{div-mul-add, mod-mul-add}
 use Rattle.std.proofs.lemmas.List.FromFn.{get_or-map-range_with_len}
+use Rattle.commands.specs.Stands.{BehaviourAt}
 use Rattle.commands.specs.Trees.{Behaviour, process, parallel, hide, rename}
 use Rattle.admission.specs.Conditions.{BehaviourKept, processes}
-use Rattle.arrivals.specs.Climbing.{in_set, side_of, by_side, past_hide, past_rename, climb, meeting_channel, arrival, byte_of, channel_of, arrival_entry, arrival_table, arrival_in}
+use Rattle.arrivals.specs.Climbing.{in_set, side_of, by_side, past_hide, past_rename, climb, meeting_channel, arrival, arrival_entry, arrival_table, arrival_in, KeptAt}
 use Rattle.arrivals.specs.declared.travel.Side.{Side}
 use Rattle.arrivals.specs.declared.travel.Side.TheVariants.{First, Second}
 use Rattle.arrivals.specs.Laws.{TableLaws}
@@ -43,13 +44,16 @@ meeting_small n (parallel a b) p q c h l =
 meeting_small n (hide s a) p q c h l = meeting_small n a p q c h.1 l
 meeting_small n (rename x y a) p q c h l = meeting_small n a p q c h.2 l
 
+-- a channel that stays below 32, from what the code answers for the tree that stands there
+module _ (f : List ℕ) (at n : ℕ) (b : Behaviour) (k : KeptAt f at n b) where
+  pub climb_below : (p c : ℕ) (r : Option ℕ) → ((u : Behaviour) → BehaviourAt f at u → r ≡ climb u p c) → c < 32 → Small r
+  climb_below p c r e l = subst Small (sym (e b k.here)) (climb_small n b p c k.kept l)
+
+  pub meeting_below : (p q c : ℕ) (r : Option ℕ) → ((u : Behaviour) → BehaviourAt f at u → r ≡ meeting_channel u p q c) → c < 32 → Small r
+  meeting_below p q c r e l = subst Small (sym (e b k.here)) (meeting_small n b p q c k.kept l)
+
 small_of : (r : Option ℕ) (d : ℕ) → Small r → r ≡ Some d → d < 32
 small_of r d h e = subst Small e h
-
--- a channel below 32 is read from its byte
-read_back : (r : Option ℕ) → Small r → channel_of (byte_of r) ≡ r
-read_back None h = refl
-read_back (Some d) h = rw (ne_eqb d 255 (omega arith))
 
 -- the index of an arrival says which it is
 index_channel : (p to c : ℕ) → c < 32 → ((p * 9 + to) * 32 + c) % 32 ≡ c
@@ -58,18 +62,18 @@ index_channel p to c h = mod-mul-add (p * 9 + to) 32 c h
 index_row : (p to c : ℕ) → c < 32 → ((p * 9 + to) * 32 + c) / 32 ≡ p * 9 + to
 index_row p to c h = div-mul-add (p * 9 + to) 32 c h
 
-entry_at : (b : Behaviour) (p to c : ℕ) → to < 9 → c < 32 → arrival_entry b ((p * 9 + to) * 32 + c) ≡ byte_of (arrival b p to c)
+entry_at : (b : Behaviour) (p to c : ℕ) → to < 9 → c < 32 → arrival_entry b ((p * 9 + to) * 32 + c) ≡ arrival b p to c
 entry_at b p to c k l = rw (index_row p to c l, index_channel p to c l, div-mul-add p 9 to k, mod-mul-add p 9 to k)
 
-table_at : (b : Behaviour) (i : ℕ) → i < 2304 → get_or (arrival_table b) i 0 ≡ arrival_entry b i
+table_at : (b : Behaviour) (i : ℕ) → i < 2304 → get_or (arrival_table b) i None ≡ arrival_entry b i
 unfolding arrival_table
-table_at b i h = get_or-map-range_with_len (arrival_entry b) 0 2304 i i 0 h (omega arith)
+table_at b i h = get_or-map-range_with_len (arrival_entry b) 0 2304 i i None h (omega arith)
 
-looked_up : (b : Behaviour) (p to c : ℕ) → p < 8 → to < 9 → c < 32 → Small (arrival b p to c) → arrival_in (arrival_table b) p to c ≡ arrival b p to c
+looked_up : (b : Behaviour) (p to c : ℕ) → p < 8 → to < 9 → c < 32 → arrival_in (arrival_table b) p to c ≡ arrival b p to c
 unfolding arrival_in
-looked_up b p to c h k l s =
+looked_up b p to c h k l =
     rw (lt-ltb p 8 h, lt-ltb to 9 k, lt-ltb c 32 l)
-    (ap channel_of (table_at b ((p * 9 + to) * 32 + c) (omega arith) ∙ entry_at b p to c k l) ∙ read_back (arrival b p to c) s)
+    (table_at b ((p * 9 + to) * 32 + c) (omega arith) ∙ entry_at b p to c k l)
 
 not_outside : (b : Behaviour) (p q c : ℕ) → q < 8 → arrival b p q c ≡ meeting_channel b p q c
 not_outside b p q c h = rw (ne_eqb q 8 (omega arith))
@@ -77,8 +81,8 @@ not_outside b p q c h = rw (ne_eqb q 8 (omega arith))
 pub table_laws : TableLaws
 table_laws =
     record {
-      meeting = λ n b p q c k h j l. looked_up b p q c h (omega arith) l (subst Small (sym (not_outside b p q c j)) (meeting_small n b p q c k l)) ∙ not_outside b p q c j;
-      outside = λ n b p c k h l. looked_up b p 8 c h (omega arith) l (climb_small n b p c k l);
+      meeting = λ n b p q c k h j l. looked_up b p q c h (omega arith) l ∙ not_outside b p q c j;
+      outside = λ n b p c k h l. looked_up b p 8 c h (omega arith) l;
       small_meeting = λ n b p q c d k l e. small_of _ d (meeting_small n b p q c k l) e;
       small_outside = λ n b p c d k l e. small_of _ d (climb_small n b p c k l) e;
     }

@@ -1,5 +1,5 @@
 -- How a channel travels up a behaviour.
-use Rattle.std.specs.Prelude.{ℕ, ◌+◌, ◌-◌, ◌*◌, ◌/◌, ◌%◌, ◌^◌, ◌≤◌, Bool, cond, ◌&&◌, List, map, Some, None, Option, ◌==◌, nat_lt, slice_index}
+use Rattle.std.specs.Prelude.{ℕ, ◌+◌, ◌-◌, ◌*◌, ◌/◌, ◌%◌, ◌^◌, ◌≤◌, Bool, cond, ◌&&◌, List, map, Some, None, Option, ◌==◌, nat_lt, slice_index_or}
 use Rattle.std.specs.List.{range_with_len}
 use Rattle.commands.specs.Stands.{BehaviourAt}
 use Rattle.commands.specs.Trees.{Behaviour, process, parallel, hide, rename}
@@ -52,26 +52,18 @@ meeting_channel (rename x y a) p q c = meeting_channel a p q c
 abbrev pub arrival : Behaviour → ℕ → ℕ → ℕ → Option ℕ
 arrival b p to c = cond (to == 8) (climb b p c) (meeting_channel b p to c)
 
--- a byte of the table is a channel, or 255 for none
-abbrev pub byte_of : Option ℕ → ℕ
-byte_of None = 255
-byte_of (Some d) = d
+-- what the table says for process p, to, and channel c stands at (p * 9 + to) * 32 + c
+abbrev pub arrival_entry : Behaviour → ℕ → Option ℕ
+arrival_entry b i = arrival b (i / 32 / 9) (i / 32 % 9) (i % 32)
 
-abbrev pub channel_of : ℕ → Option ℕ
-channel_of byte = cond (byte == 255) None (Some byte)
-
--- the byte for process p, to, and channel c stands at (p * 9 + to) * 32 + c
-abbrev pub arrival_entry : Behaviour → ℕ → ℕ
-arrival_entry b i = byte_of (arrival b (i / 32 / 9) (i / 32 % 9) (i % 32))
-
-unfoldable pub arrival_table : Behaviour → List ℕ
+unfoldable pub arrival_table : Behaviour → List (Option ℕ)
 arrival_table b = map (arrival_entry b) (range_with_len 0 2304)
 
-unfoldable pub arrival_in : List ℕ → ℕ → ℕ → ℕ → Option ℕ
-arrival_in t p to c = cond (nat_lt p 8 && nat_lt to 9 && nat_lt c 32) (channel_of (slice_index t ((p * 9 + to) * 32 + c))) None
+unfoldable pub arrival_in : List (Option ℕ) → ℕ → ℕ → ℕ → Option ℕ
+arrival_in t p to c = cond (nat_lt p 8 && nat_lt to 9 && nat_lt c 32) (slice_index_or t ((p * 9 + to) * 32 + c) None) None
 
 -- a meeting is with a process
-abbrev pub meeting_in : List ℕ → ℕ → ℕ → ℕ → Option ℕ
+abbrev pub meeting_in : List (Option ℕ) → ℕ → ℕ → ℕ → Option ℕ
 meeting_in t p q c = cond (nat_lt q 8) (arrival_in t p q c) None
 
 -- at a place of a file stands a behaviour over so many classes, of at most 8 processes

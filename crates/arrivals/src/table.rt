@@ -1,55 +1,44 @@
 // The table of all arrivals of a behaviour.
-ghost use Rattle.std.specs.Prelude.{◌≡◌, ℕ, ◌<◌, ◌≤◌, replicate, None};
+ghost use Rattle.std.specs.Prelude.{◌≡◌, ℕ, ◌<◌, replicate, None};
 ghost use Rattle.commands.specs.Stands.{BehaviourAt};
 ghost use Rattle.commands.specs.Trees.{Behaviour};
-ghost use Rattle.arrivals.specs.Climbing.{arrival_entry, arrival_table, arrival_in, meeting_in, channel_of, KeptAt};
+ghost use Rattle.arrivals.specs.Climbing.{arrival_entry, arrival_table, arrival_in, meeting_in, KeptAt};
 
 use crate::travel::{climb, meeting_channel};
 
-// Where to, for what leaves the model; other numbers are those of processes.
+// Where to, for what leaves the model: the last column of the table, behind those of the processes.
 const OUTSIDE: u8 = 8;
 
-// What stands in the table for a channel that does not arrive.
-const STOPPED: u8 = 255;
-
-// A byte for each of 8 processes, 9 places where to, and 32 channels.
+// As what each of 32 channels of 8 processes arrives at each of 9 places where to, if it does.
 #[derive(Clone, Copy)]
 pub struct Arrivals {
-    channels: [u8; 2304],
+    channels: [Option<u8>; 2304],
 }
 
-// The channel that a byte of the table says.
-fn channel_of(byte: u8) -> Option<u8>
-    ensures { result ≡ channel_of byte }
-{
-    if byte == STOPPED { None } else { Some(byte) }
-}
-
-// The byte at an index of the table.
-fn entry(file: &[u8], at: usize, index: usize) -> u8
-    requires by_index { (n : ℕ) × (b : Behaviour) × KeptAt file.now at n b }
-    requires index_bound { index < 2304 }
+// What stands at an index of the table. File and place stay two parameters, as in the module `travel`.
+fn entry(file: &[u8], at: usize, index: usize) -> Option<u8>
+    requires stands { (n : ℕ) × (b : Behaviour) × KeptAt file.now at n b }
+    requires within { index < 2304 }
     ensures { (b : Behaviour) → BehaviourAt file.now at b → result ≡ arrival_entry b index }
 {
     let channel = (index % 32) as u8;
     let to = (index / 32 % 9) as u8;
     let process = (index / 32 / 9) as u8;
-    let arrived = if to == OUTSIDE {
+    if to == OUTSIDE {
         climb(file, at, process, channel)
     } else {
         meeting_channel(file, at, process, to, channel)
-    };
-    arrived.unwrap_or(STOPPED)
+    }
 }
 
 impl Arrivals {
     // Nothing arrives anywhere.
     pub fn none() -> Arrivals
-        ensures bytes { result.channels ≡ replicate 2304 255 }
+        ensures entries { result.channels ≡ replicate 2304 None }
         ensures empty { (p to c : ℕ) → arrival_in result.channels p to c ≡ None }
     {
         Arrivals {
-            channels: [STOPPED; 2304],
+            channels: [None; 2304],
         }
     }
 
@@ -58,9 +47,10 @@ impl Arrivals {
         requires { (n : ℕ) × (b : Behaviour) × KeptAt file.now at n b }
         ensures { (b : Behaviour) → BehaviourAt file.now at b → result.channels ≡ arrival_table b }
     {
-        let mut channels = [STOPPED; 2304];
-        for (index, byte) in channels.iter_mut().enumerate() {
-            *byte = entry(file, at, index);
+        let mut channels = [None; 2304];
+        // a loop: a closure for `from_fn` would have to ask what `entry` asks
+        for (index, channel) in channels.iter_mut().enumerate() {
+            *channel = entry(file, at, index);
         }
         Arrivals { channels }
     }
@@ -71,7 +61,7 @@ impl Arrivals {
     {
         if process < 8 && to < 9 && channel < 32 {
             let index = (process as usize * 9 + to as usize) * 32 + channel as usize;
-            channel_of(self.channels[index])
+            self.channels[index]
         } else {
             None
         }

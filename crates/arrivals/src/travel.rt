@@ -1,43 +1,34 @@
 // How a channel travels up a behaviour in a file.
+// File and place stay two parameters: a struct of both could not hold the fact that a behaviour stands there, since a
+// ghost field is a fact with one proof at most, and this one names the behaviour.
 ghost use Rattle.std.specs.Prelude.{◌≡◌, ℕ, ◌<◌, ◌≤◌, IfSome};
 ghost use Rattle.commands.specs.Stands.{BehaviourAt};
 ghost use Rattle.commands.specs.Trees.{Behaviour};
 ghost use Rattle.admission.specs.Conditions.{processes};
 ghost use Rattle.arrivals.specs.Climbing.{in_set, side_of, past_hide, past_rename, climb, meeting_channel, KeptAt};
 
-use commands::behaviour::{BehaviourCommand, read_behaviour};
+use commands::behaviour::BehaviourCommand;
+use commands::command::read;
 
 // Whether a set of channels has this one.
 fn in_set(set: u32, channel: u8) -> bool
-    requires { channel < 32 }
     ensures { result ≡ in_set set channel }
 {
-    (set >> channel) % 2 == 1
+    channel < 32 && (set >> channel) % 2 == 1
 }
 
 // What comes out of a HIDE, given what arrives below it.
 fn past_hide(set: u32, below: Option<u8>) -> Option<u8>
-    requires { IfSome below (λ d. d < 32) }
-    ensures exact { result ≡ past_hide set below }
-    ensures small { IfSome result (λ d. d < 32) }
+    ensures { result ≡ past_hide set below }
 {
-    match below {
-        Some(channel) if !in_set(set, channel) => Some(channel),
-        _ => None,
-    }
+    below.filter(|channel| !in_set(set, *channel))
 }
 
 // What comes out of a RENAME, given what arrives below it.
 fn past_rename(from: u8, to: u8, below: Option<u8>) -> Option<u8>
-    requires to_bound { to < 32 }
-    requires some { IfSome below (λ d. d < 32) }
-    ensures exact { result ≡ past_rename from to below }
-    ensures small { IfSome result (λ d. d < 32) }
+    ensures { result ≡ past_rename from to below }
 {
-    match below {
-        Some(channel) if channel == from => Some(to),
-        other => other,
-    }
+    below.map(|channel| if channel == from { to } else { channel })
 }
 
 // The part of a PAR that has a process, and its number in that part.
@@ -65,7 +56,7 @@ pub fn processes_in(file: &[u8], at: usize) -> u8
     requires { (b : Behaviour) × BehaviourAt file.now at b × (processes b ≤ 8) }
     ensures { (b : Behaviour) → BehaviourAt file.now at b → result ≡ processes b }
 {
-    let Some(command) = read_behaviour(file, at) else {
+    let Some(command) = read::<BehaviourCommand>(file, at) else {
         return unreachable();
     };
     match command {
@@ -82,12 +73,11 @@ pub fn processes_in(file: &[u8], at: usize) -> u8
 
 // As what the channel of a process of the behaviour at `at` passes that behaviour's root.
 pub fn climb(file: &[u8], at: usize, process: u8, channel: u8) -> Option<u8>
-    requires stands { (n : ℕ) × (b : Behaviour) × KeptAt file.now at n b }
-    requires below { channel < 32 }
+    requires { (n : ℕ) × (b : Behaviour) × KeptAt file.now at n b }
     ensures exact { (b : Behaviour) → BehaviourAt file.now at b → result ≡ climb b process channel }
-    ensures small { IfSome result (λ d. d < 32) }
+    ensures small { channel < 32 → IfSome result (λ d. d < 32) }
 {
-    let Some(command) = read_behaviour(file, at) else {
+    let Some(command) = read::<BehaviourCommand>(file, at) else {
         return unreachable();
     };
     match command {
@@ -109,12 +99,11 @@ pub fn climb(file: &[u8], at: usize, process: u8, channel: u8) -> Option<u8>
 // As what the channel of process `p` arrives at the lowest PAR above `p` and `q`, in the behaviour
 // at `at`.
 pub fn meeting_channel(file: &[u8], at: usize, p: u8, q: u8, channel: u8) -> Option<u8>
-    requires stands { (n : ℕ) × (b : Behaviour) × KeptAt file.now at n b }
-    requires below { channel < 32 }
+    requires { (n : ℕ) × (b : Behaviour) × KeptAt file.now at n b }
     ensures exact { (b : Behaviour) → BehaviourAt file.now at b → result ≡ meeting_channel b p q channel }
-    ensures small { IfSome result (λ d. d < 32) }
+    ensures small { channel < 32 → IfSome result (λ d. d < 32) }
 {
-    let Some(command) = read_behaviour(file, at) else {
+    let Some(command) = read::<BehaviourCommand>(file, at) else {
         return unreachable();
     };
     match command {

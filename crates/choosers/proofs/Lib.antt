@@ -2,5 +2,4 @@ pub mod Fairness
 pub mod Firsts
 pub mod Rotations
 pub mod Seniorities
-pub mod Scripts
 pub mod Passes

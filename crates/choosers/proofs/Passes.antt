@@ -1,6 +1,6 @@
 -- Rotation in one pass over the steps.
-use Rattle.std.proofs.Common.{◌≡◌, ℕ, zero, suc, ◌+◌, ◌%◌, ◌<◌, ◌≤◌, min, Bool, true, false, cond, ◌&&◌, eqb, ltb, [], ◌∷◌, length, get_or, Some, None, Option, sym, refl, ap, ◌∙◌, subst, ⊎_elim, le_refl, arith}
-use Rattle.std.proofs.lemmas.Bool.{cond-true, cond-false, cond_both, eq-eqb, eqb-true, or_cases, or_left, or_right, and_from, and_parts, lt-ltb, le-ltb, ltb-true, ltb-false, cases_lt, cases_Bool}
+use Rattle.std.proofs.Common.{◌≡◌, ℕ, zero, suc, ◌+◌, ◌%◌, ◌<◌, ◌≤◌, min, Bool, true, false, ◌&&◌, eqb, ltb, [], ◌∷◌, length, get_or, Some, None, Option, sym, refl, ap, ◌∙◌, ⊎_elim, arith}
+use Rattle.std.proofs.lemmas.Bool.{cond-true, cond-false, cond_both, eq-eqb, eqb-true, or_cases, or_left, or_right, and_from, and_parts, lt-ltb, le-ltb, ltb-true, cases_lt, cases_Bool}
 use Rattle.records.specs.declared.step.Step.{Step}
 use Rattle.records.specs.Steps.{has, no_step}
 use Rattle.choosers.specs.Meanings.{Question}
@@ -19,35 +19,6 @@ pub record Best (c : ℕ) (q : Question) (i at best : ℕ) : Type 0 where
   pub within : best < 8 → at < i
   pub is : best < 8 → away c (get_or q at no_step) ≡ best
   pub before : (k : ℕ) → k < at → best < away c (get_or q k no_step)
-
-module _ (c : ℕ) (q : Question) (i at best : ℕ) (b : Best c q i at best) where
-  best_same : best ≤ away c (get_or q i no_step) → Best c q (i + 1) at best
-  best_same h = record {
-    most = b.most;
-    least = λ k l. ⊎_elim (λ (s : k < i). b.least k s) (λ s. let e : k ≡ i = omega arith in rw e h) (cases_lt k i);
-    none = b.none;
-    within = λ s. let j = b.within s in omega arith;
-    is = b.is;
-    before = b.before;
-  }
-
-  best_new : away c (get_or q i no_step) < best → Best c q (i + 1) i (away c (get_or q i no_step))
-  best_new h = record {
-    most = let j = b.most in omega arith;
-    least = λ k l. ⊎_elim (λ (s : k < i). let j = b.least k s in omega arith) (λ (s : i ≤ k). let e : k ≡ i = omega arith in rw e (le_refl (away c (get_or q i no_step)))) (cases_lt k i);
-    none = λ e. absurd (let j = b.most in omega arith);
-    within = λ _. omega arith;
-    is = λ _. refl;
-    before = λ k l. let j = b.least k l in omega arith;
-  }
-
--- the best of one step more, as the code takes the nearer of the two
-pub best_next : (c : ℕ) (q : Question) (i at best d : ℕ) → Best c q i at best → d ≡ away c (get_or q i no_step) → Best c q (i + 1) (cond (ltb d best) i at) (cond (ltb d best) d best)
-best_next c q i at best d b e = go (ltb d best) refl
-  where
-    go : (t : Bool) → ltb d best ≡ t → Best c q (i + 1) (cond t i at) (cond t d best)
-    go true t = subst (λ x. Best c q (i + 1) i x) (sym e) (best_new c q i at best b (let l = ltb-true d best t in omega arith))
-    go false t = best_same c q i at best b (let l = ltb-false d best t in omega arith)
 
 -- a step is no further away than a process in it
 away_has : (c p : ℕ) (s : Step) → p < 8 → has p s ≡ true → away c s ≤ ahead c p

@@ -1,5 +1,7 @@
 -- The first step that passes a test.
-use Rattle.std.specs.Prelude.{ℕ, ◌+◌, Bool, cond, [], ◌∷◌, Some, None, Option}
+use Rattle.std.specs.Prelude.{◌≡◌, ℕ, ◌+◌, Bool, cond, [], ◌∷◌, Some, None, Option}
+use Rattle.std.specs.Borrow.{Bor}
+use Rattle.std.specs.Fn.{Shared, FnReturnsAt}
 use Rattle.records.specs.declared.step.Step.{Step}
 use Rattle.choosers.specs.Meanings.{Question}
 
@@ -15,3 +17,7 @@ first_from k test (s ∷ ss) = cond (test s) (Some k) (first_from (k + 1) test s
 
 abbrev pub first : (Step → Bool) → Question → Option ℕ
 first test q = first_from 0 test q
+
+-- each call of the test f, at a reference to a step, answers what t gives
+abbrev pub TestsAs : {F : Type 0} → Shared F (Bor Step × Unit {0}) Bool → F → (Step → Bool) → Type 0
+TestsAs g f t = (s : Step) (b : Bool) → FnReturnsAt g f s b → b ≡ t s

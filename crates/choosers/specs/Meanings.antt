@@ -1,8 +1,6 @@
 -- What a chooser means: how it will answer.
 use Rattle.std.specs.Prelude.{ℕ, ◌<◌, cond, List, [], ◌∷◌, length, Some, None, Option, ◌==◌}
 use Rattle.records.specs.declared.step.Step.{Step}
-use Rattle.choosers.specs.declared.answer.Answer.{Answer}
-use Rattle.choosers.specs.declared.answer.Answer.TheVariants.{Pick, Declined}
 
 -- what a chooser is asked about: the closed steps
 abbrev pub Question : Type 0
@@ -19,11 +17,6 @@ after f q = λ past. f (q ∷ past)
 -- how each question is answered once some have been: by a pick, or not at all
 abbrev pub Meaning : Type 0
 Meaning = Later (Question → Option ℕ)
-
--- what an answer of the code stands for
-abbrev pub meant : Answer → Option ℕ
-meant (Pick n) = Some n
-meant Declined = None
 
 -- a pick is a number below the count
 abbrev pub BelowCount : Option ℕ → Question → Type 0

@@ -1,28 +1,18 @@
-// The first closed step of a process.
-ghost use Rattle.std.specs.Prelude.{◌≡◌};
-ghost use Rattle.records.specs.Steps.{has, internal_of};
-ghost use Rattle.choosers.specs.Firsts.{first};
+// The first closed step that passes a test.
+ghost use Rattle.std.specs.Prelude.{◌≡◌, Bool};
+ghost use Rattle.records.specs.declared.step.Step.{Step as StepRow};
+ghost use Rattle.choosers.specs.Firsts.{first, TestsAs};
 
 use records::step::Step;
 
-// The number of the first step that process `p` is in.
-pub fn first_having(closed: &[Step], p: u8) -> Option<usize>
-    ensures { result ≡ first (has p) closed.now }
+// The number of the first step that passes: by any `t` that says how the test answers.
+// Choosers go over the slice of closed steps by its numbers, which are what they answer.
+pub fn first_passing<F: Fn(&Step) -> bool>(closed: &[Step], test: F) -> Option<usize>
+    requires { F.IsAlwaysCallable test }
+    ensures { (t : StepRow → Bool) → TestsAs F.Fn test t → result ≡ first t closed.now }
 {
     for (i, s) in closed.iter().enumerate() {
-        if s.involves(p) {
-            return Some(i);
-        }
-    }
-    None
-}
-
-// The number of the first internal step of process `p`.
-pub fn first_internal(closed: &[Step], p: u8) -> Option<usize>
-    ensures { result ≡ first (internal_of p) closed.now }
-{
-    for (i, s) in closed.iter().enumerate() {
-        if s.internal_to(p) {
+        if test(s) {
             return Some(i);
         }
     }

@@ -1,12 +1,11 @@
 // Hold: over a fair chooser, it lets a process go on with its internal steps before another is served.
 ghost use Rattle.std.specs.Prelude.{refl, ◌≡◌, ◌+◌, ◌-◌, ◌*◌, ◌<◌, ◌≤◌, []};
-ghost use Rattle.choosers.specs.Meanings.{picking, after};
+ghost use Rattle.choosers.specs.Meanings.{after};
 ghost use Rattle.choosers.specs.Holds.{hold, hold_waits, held};
 ghost use Rattle.choosers.specs.HoldsLemmas.{hold_fair};
 
-use crate::answer::{Answer, picked};
-use crate::chooser::{Chooser, FairChooser};
-use crate::find::first_internal;
+use crate::chooser::FairChooser;
+use crate::find::first_passing;
 use records::step::Step;
 
 #[derive(Drop)]
@@ -41,27 +40,7 @@ impl<F: FairChooser> Hold<F> {
         if self.left == 0 {
             return None;
         }
-        first_internal(closed, self.kept)
-    }
-
-    fn hold_on(&mut self)
-        requires { 0 < self.old.left }
-        ensures left { self.new.left ≡ self.old.left - 1 }
-        ensures kept { self.new.kept ≡ self.old.kept }
-        ensures k { self.new.k ≡ self.old.k }
-        ensures below { self.new.below ≡ self.old.below }
-    {
-        self.left -= 1;
-    }
-
-    fn keep(&mut self, s: Step)
-        ensures left { self.new.left ≡ self.old.k }
-        ensures kept { self.new.kept ≡ s.process }
-        ensures k { self.new.k ≡ self.old.k }
-        ensures below { self.new.below ≡ self.old.below }
-    {
-        self.kept = s.process;
-        self.left = self.k;
+        first_passing(closed, |s| s.internal_to(self.kept))
     }
 
     // Holds on, or else asks below. Where there is no step it answers 0 and stays.
@@ -72,25 +51,17 @@ impl<F: FairChooser> Hold<F> {
         ensures k { self.new.k ≡ self.old.k }
         ensures bound { F.bound self.new.below ≡ F.bound self.old.below }
     {
-        if closed.len() == 0 {
+        if closed.is_empty() {
             return 0;
         }
         if let Some(i) = self.held(closed) {
-            self.hold_on();
+            self.left -= 1;
             return i;
         }
         let i = self.below.pick(closed);
-        self.keep(closed[i]);
+        self.kept = closed[i].process;
+        self.left = self.k;
         i
-    }
-}
-
-impl<F: FairChooser> Chooser for Hold<F> {
-    ghost meaning = { λ s. picking (hold s.k (F.picks s.below) s.left s.kept) };
-
-    fn choose(&mut self, closed: &[Step]) -> Answer {
-        let n = self.advance(closed);
-        picked(closed, n)
     }
 }
 

@@ -1,11 +1,9 @@
 // Rotation: it serves processes in a circle.
-ghost use Rattle.std.specs.Prelude.{refl, ◌≡◌, ◌<◌, if◌then◌else◌, nat_lt};
-ghost use Rattle.choosers.specs.Meanings.{picking};
+ghost use Rattle.std.specs.Prelude.{refl, ◌≡◌, ◌<◌};
 ghost use Rattle.choosers.specs.Rotations.{rotation, rotation_pick, rotation_next, rotation_waits, reach, away, behind};
 ghost use Rattle.choosers.specs.RotationsLemmas.{rotation_fair};
 
-use crate::answer::{Answer, picked};
-use crate::chooser::{Chooser, FairChooser};
+use crate::chooser::FairChooser;
 use records::step::{MEETING, Step};
 
 #[derive(Drop)]
@@ -34,81 +32,60 @@ impl Rotation {
         ensures answer { result ≡ rotation_pick self.old.cursor closed.now }
         ensures next { self.new.cursor ≡ rotation_next self.old.cursor closed.now }
     {
-        let near = nearest_step(self.cursor, closed);
-        self.cursor = moved(self.cursor, near.distance);
+        let near = self.nearest(closed);
+        self.cursor = self.behind(near.distance);
         near.step
     }
-}
 
-// The cursor behind a process so far away.
-fn moved(cursor: u8, distance: u8) -> u8
-    requires { cursor < 8 }
-    ensures exact { result ≡ behind cursor distance }
-    ensures ok { result < 8 }
-{
-    if distance < 8 {
-        (cursor + distance + 1) % 8
-    } else {
-        cursor
+    // The cursor behind a process so far away.
+    fn behind(&self, distance: u8) -> u8
+        ensures exact { result ≡ behind self.now.cursor distance }
+        ensures ok { result < 8 }
+    {
+        if distance < 8 {
+            (self.cursor + distance + 1) % 8
+        } else {
+            self.cursor
+        }
     }
-}
 
-// How far process `p` is from the cursor, round 8; 8 for any other number.
-fn reach_of(cursor: u8, p: u8) -> u8
-    requires { cursor < 8 }
-    ensures { result ≡ reach cursor p }
-{
-    if p < 8 { (8 + p - cursor) % 8 } else { 8 }
-}
-
-// How far the nearest process of a step is from the cursor.
-fn away_of(cursor: u8, s: &Step) -> u8
-    requires { cursor < 8 }
-    ensures { result ≡ away cursor s.now }
-{
-    let d = reach_of(cursor, s.process);
-    if s.kind == MEETING {
-        let e = reach_of(cursor, s.partner);
-        if e < d { e } else { d }
-    } else {
-        d
+    // How far process `p` is from the cursor, round 8.
+    // 8 for any other number: farther than any process, so that comparing needs no case for it.
+    fn reach(&self, p: u8) -> u8
+        ensures { result ≡ reach self.now.cursor p }
+    {
+        if p < 8 { (8 + p - self.cursor) % 8 } else { 8 }
     }
-}
 
-// The nearer of two, and the earlier where they are as near.
-fn nearer(best: Near, step: usize, distance: u8) -> Near
-    ensures step { result.step ≡ (if nat_lt distance best.distance then step else best.step) }
-    ensures distance { result.distance ≡ (if nat_lt distance best.distance then distance else best.distance) }
-{
-    if distance < best.distance {
-        Near { step, distance }
-    } else {
+    // How far the nearest process of a step is from the cursor.
+    fn away(&self, s: &Step) -> u8
+        ensures { result ≡ away self.now.cursor s.now }
+    {
+        let d = self.reach(s.process);
+        if s.kind == MEETING {
+            d.min(self.reach(s.partner))
+        } else {
+            d
+        }
+    }
+
+    // In one pass: the first step of the nearest process; at distance 8 where there is none.
+    // A loop: `min_by_key` would answer the step without its distance, which the cursor needs.
+    fn nearest(&self, closed: &[Step]) -> Near
+        ensures step { result.step ≡ rotation_pick self.now.cursor closed.now }
+        ensures distance { behind self.now.cursor result.distance ≡ rotation_next self.now.cursor closed.now }
+    {
+        let mut best = Near {
+            step: 0,
+            distance: 8,
+        };
+        for (step, s) in closed.iter().enumerate() {
+            let distance = self.away(s);
+            if distance < best.distance {
+                best = Near { step, distance };
+            }
+        }
         best
-    }
-}
-
-// In one pass: the first step of the nearest process; at distance 8 where there is none.
-fn nearest_step(cursor: u8, closed: &[Step]) -> Near
-    requires { cursor < 8 }
-    ensures step { result.step ≡ rotation_pick cursor closed.now }
-    ensures distance { behind cursor result.distance ≡ rotation_next cursor closed.now }
-{
-    let mut best = Near {
-        step: 0,
-        distance: 8,
-    };
-    for (i, s) in closed.iter().enumerate() {
-        best = nearer(best, i, away_of(cursor, s));
-    }
-    best
-}
-
-impl Chooser for Rotation {
-    ghost meaning = { λ s. picking (rotation s.cursor) };
-
-    fn choose(&mut self, closed: &[Step]) -> Answer {
-        let n = self.advance(closed);
-        picked(closed, n)
     }
 }
 

@@ -1,12 +1,10 @@
 // Seniority: it serves who has been in no picked step for longest.
-ghost use Rattle.std.specs.Prelude.{refl, ◌≡◌, ◌<◌, length, IfSome};
-ghost use Rattle.choosers.specs.Meanings.{picking};
+ghost use Rattle.std.specs.Prelude.{refl, ◌≡◌, ◌<◌, ◌==◌, length, position, IfSome};
 ghost use Rattle.choosers.specs.Seniorities.{by_number, seniority, senior_step, seniority_pick, seniority_next, seniority_waits, to_end, demoted, Complete};
 ghost use Rattle.choosers.specs.SenioritiesLemmas.{seniority_fair};
 
-use crate::answer::{Answer, picked};
-use crate::chooser::{Chooser, FairChooser};
-use crate::find::first_having;
+use crate::chooser::FairChooser;
+use crate::find::first_passing;
 use records::step::{MEETING, Step};
 
 #[derive(Drop)]
@@ -30,20 +28,11 @@ impl Seniority {
         ensures answer { result ≡ seniority_pick self.old.order closed.now }
         ensures next { self.new.order ≡ seniority_next self.old.order closed.now }
     {
-        if let Some(i) = frontmost(&self.order, closed) {
-            self.demote_step(closed[i]);
-            return i;
-        }
-        0
-    }
-
-    // Moves whoever is in a step to the end.
-    fn demote_step(&mut self, s: Step)
-        ensures { self.new.order ≡ demoted s self.old.order }
-    {
-        let mut order = self.order;
-        demote_all(&mut order, s);
-        self.order = order;
+        let Some(i) = frontmost(&self.order, closed) else {
+            return 0;
+        };
+        demote_all(&mut self.order, closed[i]);
+        i
     }
 }
 
@@ -52,23 +41,28 @@ fn frontmost(order: &[u8], closed: &[Step]) -> Option<usize>
     ensures below { IfSome result (λ i. i < length closed.now) }
     ensures answer { result ≡ senior_step order.now closed.now }
 {
+    // a loop: what `find_map` answers for a closure that searches again is not proved
     for p in order {
-        if let Some(i) = first_having(closed, *p) {
+        if let Some(i) = first_passing(closed, |s| s.involves(*p)) {
             return Some(i);
         }
     }
     None
 }
 
+// The place of process `p` in the order.
+fn place_of(order: &[u8], p: u8) -> Option<usize>
+    ensures { result ≡ position (λ x. x == p) order.now }
+{
+    order.iter().position(|x| *x == p)
+}
+
 // Moves process `p` to the end of the order.
 fn demote(order: &mut [u8], p: u8)
     ensures { order.new ≡ to_end p order.old }
 {
-    for j in 0..order.len() {
-        if order[j] == p {
-            order[j..].rotate_left(1);
-            return;
-        }
+    if let Some(i) = place_of(order, p) {
+        order[i..].rotate_left(1);
     }
 }
 
@@ -79,15 +73,6 @@ fn demote_all(order: &mut [u8], s: Step)
     demote(order, s.process);
     if s.kind == MEETING {
         demote(order, s.partner);
-    }
-}
-
-impl Chooser for Seniority {
-    ghost meaning = { λ s. picking (seniority s.order) };
-
-    fn choose(&mut self, closed: &[Step]) -> Answer {
-        let n = self.advance(closed);
-        picked(closed, n)
     }
 }
 

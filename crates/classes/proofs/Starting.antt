@@ -11,7 +11,7 @@ use Rattle.files.specs.Heads.{row_at}
 use Rattle.admission.specs.Conditions.{ClassKept}
 use Rattle.admission.proofs.HeadBytes.{value_back}
 use Rattle.processes.specs.Found.{StmtsAt}
-use Rattle.processes.specs.Places.{backwards, places_of}
+use Rattle.processes.specs.Places.{places_of}
 use Rattle.processes.specs.declared.left.Left.{Left}
 use Rattle.processes.proofs.Kept.{class_laws}
 use Rattle.classes.specs.Classes.{rows_at, Scoped}
@@ -43,11 +43,6 @@ row_put n f at u x rows less e is =
 pub values_back : (vs : List Val) → map value_of_row (map row_of vs) ≡ vs
 values_back [] = refl
 values_back (v ∷ vs) = let a = value_back v in let b = values_back vs in cc
-
--- nothing is left: no place is stored
-pub none_stored : (n : ℕ) (ps : List ℕ) → backwards n ps ≡ [] → n ≡ 0
-none_stored zero ps e = refl
-none_stored (suc n) ps e = absurd (let z : ◌≡◌ {A = ℕ} 0 1 = cc in omega arith)
 
 -- a fresh process, by what the code finds
 pub fresh_made : (f : List ℕ) (s : Scope) (c : Class) (rows : List Row) (before left : Left) (place : ℕ) → length f ≤ 4096 → ClassKept c → Scoped f s c → rows ≡ rows_at s.variables.count f s.variables.at ++ replicate (8 - s.variables.count) unknown_row → places_of before ≡ [] → places_of left ≡ place ∷ places_of before → StmtAt f place c.statement → FreshOf f c (record { variables = s.variables.count; rows = rows; left = left })

@@ -7,10 +7,9 @@ ghost use Rattle.classes.specs.Starts.{unknown_row, FreshOf};
 use crate::head::{scope_of, statement_of};
 use files::variables::Variables;
 use processes::left::Left;
-use values::row::Row;
-use values::value::{Integer, Value};
+use values::row::{Row, UNKNOWN};
 
-// The rows beyond the variables are the unknown Integer's.
+// All eight rows, as the table of processes takes them; those beyond the variables are the unknown Integer's.
 #[derive(Clone, Copy)]
 pub struct Fresh {
     pub variables: u8,
@@ -23,7 +22,8 @@ fn start_rows(file: &[u8], variables: Variables) -> [Row; 8]
     requires { (variables.count ≤ 8) × (variables.at + 6 * variables.count ≤ length file.now) }
     ensures { result ≡ rows_at variables.count file.now variables.at ++ replicate (8 - variables.count) unknown_row }
 {
-    let mut rows = [Row::of(Value::Integer(Integer::unknown())); 8];
+    let mut rows = [UNKNOWN; 8];
+    // the number names a variable in the file as well as its row
     for i in 0..variables.count {
         rows[i as usize] = variables.start(file, i);
     }

@@ -1,15 +1,19 @@
 // What the head of a class says, and where its statement stands, by the number of the class.
+// File and number stay two parameters: a struct of both could not hold the fact that every function asks for, since a
+// ghost field is a fact with one proof at most, and this one names the tree of the class.
 ghost use Rattle.std.specs.Prelude.{◌≡◌, map, length};
 ghost use Rattle.std.specs.List.{slice_get};
 ghost use Rattle.values.specs.Rows.{row_of};
 ghost use Rattle.values.specs.Values.{kind_of};
 ghost use Rattle.commands.specs.Stands.{StmtAt};
 ghost use Rattle.commands.specs.Trees.{Class};
-ghost use Rattle.files.specs.Statements.{declared, exchange};
+ghost use Rattle.files.specs.Exchanges.{exchange_of};
+ghost use Rattle.files.specs.Statements.{declared};
 ghost use Rattle.classes.specs.Classes.{ClassOf, Scoped};
 
 use crate::place::class_at;
 use files::class::{scope_at, statement_at};
+use files::declarations::Exchange;
 use files::exchange::Scope;
 use values::kind::Kind;
 use values::row::Row;
@@ -52,20 +56,11 @@ pub fn start_row(file: &[u8], class: u8, variable: u8) -> Option<Row>
 }
 
 // Whether a class declares an exchange.
-pub fn declares(
-    file: &[u8],
-    class: u8,
-    receives: bool,
-    channel: u8,
-    message: u8,
-    kinds: &[Kind],
-) -> bool
+pub fn declares(file: &[u8], class: u8, exchange: &Exchange) -> bool
     requires { (c : Class) × ClassOf file.now class c }
-    ensures { (c : Class) → ClassOf file.now class c → result ≡ declared (exchange receives channel message kinds.now) c.declarations }
+    ensures { (c : Class) → ClassOf file.now class c → result ≡ declared (exchange_of exchange.now) c.declarations }
 {
-    scope_of(file, class)
-        .declarations
-        .declare(file, receives, channel, message, kinds)
+    scope_of(file, class).declarations.declare(file, exchange)
 }
 
 // The place of the statement of a class.

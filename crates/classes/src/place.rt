@@ -10,6 +10,7 @@ pub fn class_at(file: &[u8], class: u8) -> usize
     ensures { (c : Class) → ClassOf file.now class c → Begins file.now result c }
 {
     let mut at = 4;
+    // each class is found behind the one before
     for _i in 0..class {
         at = end_of_class(file, at);
     }

@@ -1,4 +1,3 @@
-pub mod Long
 pub mod Written
 pub mod Shown
 pub mod Encoded

@@ -8,3 +8,4 @@ pub mod Bytes
 pub mod Stands
 pub mod ByteLists
 pub mod Ranges
+pub mod Texts

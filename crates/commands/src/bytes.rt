@@ -5,10 +5,5 @@ ghost use Rattle.std.specs.Prelude.{◌≡◌, drop};
 pub fn bytes_from(file: &[u8], at: usize) -> &[u8]
     ensures { result.now ≡ drop at file.now }
 {
-    let end = file.len();
-    if at < end {
-        &file[at..end]
-    } else {
-        &file[end..end]
-    }
+    file.get(at..).unwrap_or(&[])
 }

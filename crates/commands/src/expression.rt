@@ -1,8 +1,8 @@
 // The commands of expressions.
-ghost use Rattle.std.specs.Prelude.{◌≡◌, ◌+◌, ◌≤◌, length, drop, IfSome};
+ghost use Rattle.std.specs.Prelude.{◌≡◌};
 ghost use Rattle.commands.specs.Expressions.{expression_command, command_size, leaf_size};
 
-use crate::bytes::bytes_from;
+use crate::command::Command;
 use values::op::Op;
 
 pub const INT: u8 = 0x01;
@@ -31,7 +31,7 @@ pub const OR: u8 = 0x0c;
 
 pub const NOT: u8 = 0x0d;
 
-// An expression without parts.
+// An expression without parts. The operand of BOOL is the byte that the file has; which bytes are fit is checked later.
 #[derive(Clone, Copy)]
 pub enum Leaf {
     Int(i32),
@@ -61,56 +61,54 @@ impl Leaf {
     }
 }
 
-// The command that the bytes begin with; none where it is unknown or cut short.
-fn first_expression(bytes: &[u8]) -> Option<ExpressionCommand>
-    ensures exact { result ≡ expression_command bytes.now }
-    ensures long { IfSome result (λ c. command_size c ≤ length bytes.now) }
-{
-    match bytes {
-        [INT, a, b, c, d, ..] => Some(ExpressionCommand::Leaf(Leaf::Int(i32::from_le_bytes([
-            *a, *b, *c, *d,
-        ])))),
-        [BOOL, truth, ..] => Some(ExpressionCommand::Leaf(Leaf::Bool(*truth))),
-        [IUNK, ..] => Some(ExpressionCommand::Leaf(Leaf::Iunk)),
-        [VAR, variable, ..] => Some(ExpressionCommand::Leaf(Leaf::Var(*variable))),
-        [ADD, lo, hi, ..] => Some(ExpressionCommand::Binary(
-            Op::Add,
-            u16::from_le_bytes([*lo, *hi]),
-        )),
-        [SUB, lo, hi, ..] => Some(ExpressionCommand::Binary(
-            Op::Sub,
-            u16::from_le_bytes([*lo, *hi]),
-        )),
-        [MUL, lo, hi, ..] => Some(ExpressionCommand::Binary(
-            Op::Mul,
-            u16::from_le_bytes([*lo, *hi]),
-        )),
-        [DIV, lo, hi, ..] => Some(ExpressionCommand::Binary(
-            Op::Div,
-            u16::from_le_bytes([*lo, *hi]),
-        )),
-        [LESS, lo, hi, ..] => Some(ExpressionCommand::Binary(
-            Op::Less,
-            u16::from_le_bytes([*lo, *hi]),
-        )),
-        [SAME, lo, hi, ..] => Some(ExpressionCommand::Binary(
-            Op::Same,
-            u16::from_le_bytes([*lo, *hi]),
-        )),
-        [AND, lo, hi, ..] => Some(ExpressionCommand::Binary(
-            Op::And,
-            u16::from_le_bytes([*lo, *hi]),
-        )),
-        [OR, lo, hi, ..] => Some(ExpressionCommand::Binary(Op::Or, u16::from_le_bytes([*lo, *hi]))),
-        [NOT, ..] => Some(ExpressionCommand::Not),
-        _ => None,
-    }
-}
+impl Command for ExpressionCommand {
+    ghost command = { expression_command };
 
-// The command at a place.
-pub fn read_expression(file: &[u8], at: usize) -> Option<ExpressionCommand>
-    ensures exact { result ≡ expression_command (drop at file.now) }
-    ensures long { IfSome result (λ c. at + command_size c ≤ length file.now) }
-{
-    first_expression(bytes_from(file, at))
+    ghost size = { command_size };
+
+    // One arm for each first byte, as the format lists them.
+    fn first(bytes: &[u8]) -> Option<ExpressionCommand> {
+        match bytes {
+            [INT, a, b, c, d, ..] => Some(ExpressionCommand::Leaf(Leaf::Int(i32::from_le_bytes([
+                *a, *b, *c, *d,
+            ])))),
+            [BOOL, truth, ..] => Some(ExpressionCommand::Leaf(Leaf::Bool(*truth))),
+            [IUNK, ..] => Some(ExpressionCommand::Leaf(Leaf::Iunk)),
+            [VAR, variable, ..] => Some(ExpressionCommand::Leaf(Leaf::Var(*variable))),
+            [ADD, lo, hi, ..] => Some(ExpressionCommand::Binary(
+                Op::Add,
+                u16::from_le_bytes([*lo, *hi]),
+            )),
+            [SUB, lo, hi, ..] => Some(ExpressionCommand::Binary(
+                Op::Sub,
+                u16::from_le_bytes([*lo, *hi]),
+            )),
+            [MUL, lo, hi, ..] => Some(ExpressionCommand::Binary(
+                Op::Mul,
+                u16::from_le_bytes([*lo, *hi]),
+            )),
+            [DIV, lo, hi, ..] => Some(ExpressionCommand::Binary(
+                Op::Div,
+                u16::from_le_bytes([*lo, *hi]),
+            )),
+            [LESS, lo, hi, ..] => Some(ExpressionCommand::Binary(
+                Op::Less,
+                u16::from_le_bytes([*lo, *hi]),
+            )),
+            [SAME, lo, hi, ..] => Some(ExpressionCommand::Binary(
+                Op::Same,
+                u16::from_le_bytes([*lo, *hi]),
+            )),
+            [AND, lo, hi, ..] => Some(ExpressionCommand::Binary(
+                Op::And,
+                u16::from_le_bytes([*lo, *hi]),
+            )),
+            [OR, lo, hi, ..] => Some(ExpressionCommand::Binary(
+                Op::Or,
+                u16::from_le_bytes([*lo, *hi]),
+            )),
+            [NOT, ..] => Some(ExpressionCommand::Not),
+            _ => None,
+        }
+    }
 }

@@ -3,5 +3,7 @@
 
 pub mod behaviour;
 pub mod bytes;
+pub mod command;
 pub mod expression;
 pub mod statement;
+pub mod text;

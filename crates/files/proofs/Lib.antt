@@ -1,10 +1,8 @@
-pub mod Exits
 pub mod VariableKinds
 pub mod Expressing
 pub mod Behaving
 pub mod Repeating
-pub mod Scans
-pub mod OperandScans
+pub mod KindBytes
 pub mod Declaring
 pub mod Valuing
 pub mod Receiving

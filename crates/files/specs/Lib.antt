@@ -4,7 +4,10 @@ pub mod Expressions
 pub mod Heads
 pub mod Statements
 pub mod KindLists
+pub mod Exchanges
 pub mod Scopes
+pub mod Bodies
 pub mod Behaviours
 pub mod Files
 pub mod Summaries
+pub mod Answers

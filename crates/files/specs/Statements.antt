@@ -1,6 +1,6 @@
 -- The check of a statement at a place of the file: the first fault, or the place behind it and its most fronts.
-use Rattle.std.specs.Prelude.{ℕ, zero, suc, ◌+◌, Bool, true, false, not, ◌&&◌, ◌||◌, List, [], ◌∷◌, map, length, take, drop, Some, None, Ok, Err, Option, ◌==◌, nat_le, nat_lt}
-use Rattle.std.specs.List.{slice_get}
+use Rattle.std.specs.Prelude.{ℕ, zero, suc, ◌+◌, Bool, true, false, not, ◌&&◌, ◌||◌, List, [], ◌∷◌, map, length, take, drop, Ok, Err, Option, unwrap_or, ◌==◌, nat_le, nat_lt}
+use Rattle.std.specs.List.{slice_get, list_any, list_all}
 use Rattle.values.specs.declared.kind.Kind.{Kind}
 use Rattle.values.specs.declared.kind.Kind.TheVariants.{Integer, Boolean}
 use Rattle.values.specs.Kinds.{same_kind}
@@ -23,28 +23,24 @@ abbrev pub exchange_fits : ℕ → ℕ → ℕ → Bool
 exchange_fits channel message count = nat_lt channel 32 && nat_lt message 255 && nat_lt count 5
 
 abbrev pub member : ℕ → List ℕ → Bool
-member x [] = false
-member x (y ∷ ys) = x == y || member x ys
+member x ys = list_any (λ y. x == y) ys
 
 abbrev pub distinct : List ℕ → Bool
 distinct [] = true
 distinct (x ∷ xs) = not (member x xs) && distinct xs
 
 abbrev pub all_below : ℕ → List ℕ → Bool
-all_below n [] = true
-all_below n (x ∷ xs) = nat_lt x n && all_below n xs
+all_below n xs = list_all (λ x. nat_lt x n) xs
 
 abbrev pub all_unused : List ℕ → Bool
-all_unused [] = true
-all_unused (x ∷ xs) = x == 255 && all_unused xs
+all_unused xs = list_all (λ x. x == 255) xs
 
 -- the variables of a RECV: the used ones exist and differ, the others are FF
 abbrev pub variables_fit : ℕ → ℕ → List ℕ → Bool
 variables_fit variables count vs = all_below variables (take count vs) && distinct (take count vs) && all_unused (drop count vs)
 
 abbrev pub kind_or_integer : Option Kind → Kind
-kind_or_integer None = Integer
-kind_or_integer (Some k) = k
+kind_or_integer k = unwrap_or k Integer
 
 -- the kinds of variables that exist
 abbrev pub kinds_of : List Kind → List ℕ → List Kind

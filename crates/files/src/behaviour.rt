@@ -1,5 +1,5 @@
-// The check of behaviours.
-ghost use Rattle.std.specs.Prelude.{◌≡◌, ◌+◌, ◌^◌, ◌<◌, ◌≤◌, ◌&&◌, length, IfOk, nat_lt};
+// The check of behaviours. One function alone takes both the file and the number of classes, so no struct holds them.
+ghost use Rattle.std.specs.Prelude.{◌≡◌, ◌+◌, ◌^◌, ◌<◌, ◌&&◌, nat_lt};
 ghost use Rattle.files.specs.Checked.{ask as asked};
 ghost use Rattle.files.specs.declared.fault.FaultKind.TheVariants.{Operand};
 ghost use Rattle.files.specs.declared.fault.Layer.TheVariants.{Behaviour};
@@ -7,7 +7,8 @@ ghost use Rattle.files.specs.Behaviours.{check_behaviour, check_process};
 
 use crate::checked::{ask, fault};
 use crate::fault::{FaultKind, Layer, LoadFault};
-use commands::behaviour::{BehaviourCommand, read_behaviour};
+use commands::behaviour::BehaviourCommand;
+use commands::command::read;
 
 // The most processes of a model.
 const PROCESSES: u8 = 8;
@@ -17,8 +18,7 @@ const CHANNELS: u8 = 32;
 
 fn check_process(classes: u8, procs: u8, at: usize, class: u8) -> Result<(usize, u8), LoadFault>
     requires { at + 2 < 2 ^ 64 }
-    ensures exact { result ≡ check_process classes procs at class }
-    ensures end { IfOk result (λ v. v.0 ≡ at + 2) }
+    ensures { result ≡ check_process classes procs at class }
 {
     ask(class < classes, FaultKind::Operand, at, Layer::Behaviour)?;
     ask(
@@ -43,6 +43,7 @@ fn channels_fit(from: u8, to: u8, at: usize) -> Result<(), LoadFault>
 }
 
 // The place behind the behaviour at `at`, and the PROCs up to there; it may nest `left` deep.
+#[tactic(auto, using(crate::proofs::Behaving::unknown, crate::proofs::Behaving::too_deep, crate::proofs::Behaving::behaviour_step))]
 pub(crate) fn check_behaviour(
     file: &[u8],
     classes: u8,
@@ -50,27 +51,27 @@ pub(crate) fn check_behaviour(
     left: u8,
     procs: u8,
 ) -> Result<(usize, u8), LoadFault>
-    requires { at ≤ length file.now }
-    ensures exact { result ≡ check_behaviour left file.now classes at procs }
-    ensures within { IfOk result (λ v. (at < v.0) × (v.0 ≤ length file.now)) }
+    ensures { result ≡ check_behaviour left file.now classes at procs }
 {
-    let Some(command) = read_behaviour(file, at) else {
-        return Err(fault(FaultKind::Command, at, Layer::Behaviour));
-    };
+    let command = read::<BehaviourCommand>(file, at).ok_or(fault(
+        FaultKind::Command,
+        at,
+        Layer::Behaviour,
+    ))?;
     if left == 0 {
         return Err(fault(FaultKind::Depth, at, Layer::Behaviour));
     }
     match command {
         BehaviourCommand::Proc(class) => check_process(classes, procs, at, class),
         BehaviourCommand::Par(place) => {
-            let first = check_behaviour(file, classes, at + 3, left - 1, procs)?;
+            let (end, so_far) = check_behaviour(file, classes, at + 3, left - 1, procs)?;
             ask(
-                first.0 == place as usize,
+                end == place as usize,
                 FaultKind::Command,
                 at,
                 Layer::Behaviour,
             )?;
-            check_behaviour(file, classes, first.0, left - 1, first.1)
+            check_behaviour(file, classes, end, left - 1, so_far)
         }
         BehaviourCommand::Hide(_) => check_behaviour(file, classes, at + 5, left - 1, procs),
         BehaviourCommand::Rename(from, to) => {

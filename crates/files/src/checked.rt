@@ -4,13 +4,15 @@ ghost use Rattle.files.specs.Checked.{fault as fault_of, ask as asked};
 
 use crate::fault::{FaultKind, Layer, LoadFault};
 
+// Written out as a struct, a fault would take five lines at each place that names one.
 pub(crate) fn fault(kind: FaultKind, place: usize, layer: Layer) -> LoadFault
     ensures { result ≡ fault_of kind place layer }
 {
     LoadFault { kind, place, layer }
 }
 
-// Goes on where the test is passed.
+// Goes on where the test is passed. The library has no test that `?` takes,
+// and an `if` with its own `return` would be longer at each place.
 pub(crate) fn ask(
     passed: bool,
     kind: FaultKind,

@@ -1,7 +1,8 @@
-// Where the parts of a class stand in a file that was checked.
-ghost use Rattle.std.specs.Prelude.{◌≡◌, ◌+◌, ◌*◌, ◌<◌, ◌≤◌, length};
-ghost use Rattle.values.specs.Rows.{value_of_row};
-ghost use Rattle.files.specs.Heads.{byte, word_at, row_at, statement_place};
+// Where the parts of a class stand in a file that was checked. Each answer is a sum over `at`, which
+// must fit a `usize`: so the three functions ask that `at` is in the file. They are called at
+// a place that was just computed, so a struct with that fact would be made for one call.
+ghost use Rattle.std.specs.Prelude.{◌≡◌, ◌+◌, ◌*◌, ◌≤◌, length};
+ghost use Rattle.files.specs.Heads.{word_at, row_at, statement_place};
 ghost use Rattle.files.specs.Summaries.{scope_at};
 
 use crate::bytes::{byte_at, row_at, word_at};

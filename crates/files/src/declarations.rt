@@ -1,11 +1,12 @@
 // The declarations of a class, where they stand in the file.
 ghost use Rattle.std.specs.Prelude.{◌≡◌, ◌+◌, ◌*◌, ◌≤◌, length};
-ghost use Rattle.values.specs.Kinds.{same_kind};
-ghost use Rattle.files.specs.Heads.{value_kinds, declaration_at, declarations_at};
-ghost use Rattle.files.specs.Statements.{same_kinds, same_declaration, declared as is_declared, exchange};
+ghost use Rattle.files.specs.Exchanges.{exchange_of};
+ghost use Rattle.files.specs.Heads.{byte, value_kinds, declaration_at, declarations_at};
+ghost use Rattle.files.specs.Statements.{same_kinds, same_declaration, declared as is_declared};
 
 use crate::bytes::byte_at;
 use crate::variables::kind_at;
+use commands::bytes::bytes_from;
 use values::kind::Kind;
 
 // The place of the first declaration, and how many there are.
@@ -15,71 +16,46 @@ pub struct Declarations {
     pub count: u8,
 }
 
-fn same_kind(a: Kind, b: Kind) -> bool
-    ensures { result ≡ same_kind a b }
-{
-    a == b
+// What a SEND or RECV exchanges: its direction, channel and message, and the kinds of its values.
+// The direction is a bool, since the file has a byte of 0 or 1 for it.
+#[derive(Clone, Copy)]
+pub struct Exchange<'a> {
+    pub receives: bool,
+    pub channel: u8,
+    pub message: u8,
+    pub kinds: &'a [Kind],
 }
 
-// Whether the kinds of a declaration are these.
-fn same_kinds(file: &[u8], at: usize, count: u8, kinds: &[Kind]) -> bool
-    requires { at ≤ length file.now + 4 }
-    ensures { result ≡ same_kinds kinds.now (value_kinds count file.now at) }
+// Whether the declaration that some bytes begin with has these kinds.
+// Its own are bytes of the file, so there is no slice of kinds to compare with `==`.
+fn same_kinds(bytes: &[u8], kinds: &[Kind]) -> bool
+    ensures { result ≡ same_kinds kinds.now (value_kinds (byte bytes.now 3) bytes.now 4) }
 {
-    if kinds.len() != count as usize {
-        return false;
-    }
-    for (i, kind) in kinds.iter().enumerate() {
-        if !same_kind(*kind, kind_at(file, at + i)) {
-            return false;
-        }
-    }
-    true
+    kinds.len() == byte_at(bytes, 3) as usize
+        && kinds
+            .iter()
+            .enumerate()
+            .all(|(i, kind)| *kind == kind_at(bytes, 4 + i))
 }
 
-// Whether the declaration at a place is this one.
-fn same_declaration(
-    file: &[u8],
-    at: usize,
-    receives: bool,
-    channel: u8,
-    message: u8,
-    kinds: &[Kind],
-) -> bool
-    requires { at ≤ length file.now }
-    ensures { result ≡ same_declaration (exchange receives channel message kinds.now) (declaration_at file.now at) }
-{
-    receives == (byte_at(file, at) == 1)
-        && channel == byte_at(file, at + 1)
-        && message == byte_at(file, at + 2)
-        && same_kinds(file, at + 4, byte_at(file, at + 3), kinds)
+impl Exchange<'_> {
+    // Whether it is the declaration that some bytes begin with.
+    fn is_first(&self, bytes: &[u8]) -> bool
+        ensures { result ≡ same_declaration (exchange_of self.now) (declaration_at bytes.now 0) }
+    {
+        self.receives == (byte_at(bytes, 0) == 1)
+            && self.channel == byte_at(bytes, 1)
+            && self.message == byte_at(bytes, 2)
+            && same_kinds(bytes, self.kinds)
+    }
 }
 
 impl Declarations {
     // Whether one of them is this one.
-    pub fn declare(
-        self,
-        file: &[u8],
-        receives: bool,
-        channel: u8,
-        message: u8,
-        kinds: &[Kind],
-    ) -> bool
+    pub fn declare(self, file: &[u8], exchange: &Exchange) -> bool
         requires { self.at + 8 * self.count ≤ length file.now }
-        ensures { result ≡ is_declared (exchange receives channel message kinds.now) (declarations_at self.count file.now self.at) }
+        ensures { result ≡ is_declared (exchange_of exchange.now) (declarations_at self.count file.now self.at) }
     {
-        for i in 0..self.count {
-            if same_declaration(
-                file,
-                self.at + 8 * i as usize,
-                receives,
-                channel,
-                message,
-                kinds,
-            ) {
-                return true;
-            }
-        }
-        false
+        (0..self.count).any(|i| exchange.is_first(bytes_from(file, self.at + 8 * i as usize)))
     }
 }

@@ -1,44 +1,16 @@
-// The check of expressions.
-ghost use Rattle.std.specs.Prelude.{◌≡◌, ◌+◌, ◌*◌, ◌^◌, ◌<◌, ◌≤◌, length, IfOk};
+// The check of expressions. Place and kind are a pair, as in the definition: a struct would need a conversion in each clause.
+ghost use Rattle.std.specs.Prelude.{◌≡◌, ◌+◌, ◌^◌, ◌<◌};
 ghost use Rattle.commands.specs.Expressions.{leaf_size};
+ghost use Rattle.files.specs.Bodies.{kinds_in};
 ghost use Rattle.files.specs.Expressions.{check_expression, leaf_kind, check_leaf, first_fits, both_fit, one_fits};
-ghost use Rattle.files.specs.Heads.{kinds_at};
 
+use crate::body::Body;
 use crate::checked::{ask, fault};
 use crate::fault::{FaultKind, Layer, LoadFault};
-use crate::variables::Variables;
-use commands::expression::{ExpressionCommand, Leaf, read_expression};
+use commands::command::read;
+use commands::expression::{ExpressionCommand, Leaf};
 use values::kind::Kind;
 use values::op::Op;
-
-// The kind of an expression without parts; none where its operand is out of bounds or its variable absent.
-fn leaf_kind(leaf: Leaf, file: &[u8], variables: Variables) -> Option<Kind>
-    requires { variables.at + 6 * variables.count ≤ length file.now }
-    ensures { result ≡ leaf_kind (kinds_at variables.count file.now variables.at) leaf }
-{
-    match leaf {
-        Leaf::Int(_) | Leaf::Iunk => Some(Kind::Integer),
-        Leaf::Bool(truth) => { if truth < 3 { Some(Kind::Boolean) } else { None } }
-        Leaf::Var(variable) => variables.kind(file, variable),
-    }
-}
-
-fn check_leaf(
-    leaf: Leaf,
-    at: usize,
-    file: &[u8],
-    variables: Variables,
-) -> Result<(usize, Kind), LoadFault>
-    requires place { at + leaf_size leaf < 2 ^ 64 }
-    requires head { variables.at + 6 * variables.count ≤ length file.now }
-    ensures exact { result ≡ check_leaf (kinds_at variables.count file.now variables.at) at leaf }
-    ensures end { IfOk result (λ v. v.0 ≡ at + leaf_size leaf) }
-{
-    match leaf_kind(leaf, file, variables) {
-        Some(kind) => Ok((at + leaf.size(), kind)),
-        None => Err(fault(FaultKind::Operand, at, Layer::Expression)),
-    }
-}
 
 // Whether the first of two parts has a kind that fits and ends at the place operand.
 fn first_fits(op: Op, place: u16, at: usize, first: (usize, Kind)) -> Result<(), LoadFault>
@@ -61,8 +33,7 @@ fn first_fits(op: Op, place: u16, at: usize, first: (usize, Kind)) -> Result<(),
 
 // Whether the second part has the kind of the first.
 fn both_fit(op: Op, first: (usize, Kind), second: (usize, Kind)) -> Result<(usize, Kind), LoadFault>
-    ensures exact { result ≡ both_fit op first second }
-    ensures end { IfOk result (λ v. v.0 ≡ second.0) }
+    ensures { result ≡ both_fit op first second }
 {
     ask(
         first.1 == second.1,
@@ -76,11 +47,10 @@ fn both_fit(op: Op, first: (usize, Kind), second: (usize, Kind)) -> Result<(usiz
 // Whether the part of a NOT is a Boolean.
 fn one_fits(at: usize, part: (usize, Kind)) -> Result<(usize, Kind), LoadFault>
     requires { at + 1 < 2 ^ 64 }
-    ensures exact { result ≡ one_fits at part }
-    ensures end { IfOk result (λ v. v.0 ≡ part.0) }
+    ensures { result ≡ one_fits at part }
 {
     ask(
-        Kind::Boolean == part.1,
+        part.1 == Kind::Boolean,
         FaultKind::PartKind,
         at + 1,
         Layer::Expression,
@@ -88,35 +58,53 @@ fn one_fits(at: usize, part: (usize, Kind)) -> Result<(usize, Kind), LoadFault>
     Ok((part.0, Kind::Boolean))
 }
 
-// The place behind the expression at `at` and its kind; it may nest `left` deep.
-pub(crate) fn check_expression(
-    file: &[u8],
-    at: usize,
-    left: u8,
-    variables: Variables,
-) -> Result<(usize, Kind), LoadFault>
-    requires place { at ≤ length file.now }
-    requires head { variables.at + 6 * variables.count ≤ length file.now }
-    ensures exact { result ≡ check_expression left file.now at (kinds_at variables.count file.now variables.at) }
-    ensures within { IfOk result (λ v. (at < v.0) × (v.0 ≤ length file.now)) }
-{
-    let Some(command) = read_expression(file, at) else {
-        return Err(fault(FaultKind::Command, at, Layer::Expression));
-    };
-    if left == 0 {
-        return Err(fault(FaultKind::Depth, at, Layer::Expression));
-    }
-    match command {
-        ExpressionCommand::Leaf(leaf) => check_leaf(leaf, at, file, variables),
-        ExpressionCommand::Binary(op, place) => {
-            let first = check_expression(file, at + 3, left - 1, variables)?;
-            first_fits(op, place, at, first)?;
-            let second = check_expression(file, first.0, left - 1, variables)?;
-            both_fit(op, first, second)
+impl Body<'_> {
+    // The kind of an expression without parts; none where its operand is out of bounds or its variable absent.
+    fn leaf_kind(&self, leaf: Leaf) -> Option<Kind>
+        ensures { result ≡ leaf_kind (kinds_in self.now) leaf }
+    {
+        match leaf {
+            Leaf::Int(_) | Leaf::Iunk => Some(Kind::Integer),
+            Leaf::Bool(truth) => (truth < 3).then_some(Kind::Boolean),
+            Leaf::Var(variable) => self.scope.variables.kind(self.file, variable),
         }
-        ExpressionCommand::Not => {
-            let only = check_expression(file, at + 1, left - 1, variables)?;
-            one_fits(at, only)
+    }
+
+    fn check_leaf(&self, leaf: Leaf, at: usize) -> Result<(usize, Kind), LoadFault>
+        requires { at + leaf_size leaf < 2 ^ 64 }
+        ensures { result ≡ check_leaf (kinds_in self.now) at leaf }
+    {
+        let kind = self
+            .leaf_kind(leaf)
+            .ok_or(fault(FaultKind::Operand, at, Layer::Expression))?;
+        Ok((at + leaf.size(), kind))
+    }
+
+    // The place behind the expression at `at` and its kind; it may nest `left` deep.
+    #[tactic(auto, using(crate::proofs::Expressing::unknown, crate::proofs::Expressing::too_deep, crate::proofs::Expressing::expression_step))]
+    pub(crate) fn check_expression(&self, at: usize, left: u8) -> Result<(usize, Kind), LoadFault>
+        ensures { result ≡ check_expression left self.now.file.now at (kinds_in self.now) }
+    {
+        let command = read::<ExpressionCommand>(self.file, at).ok_or(fault(
+            FaultKind::Command,
+            at,
+            Layer::Expression,
+        ))?;
+        if left == 0 {
+            return Err(fault(FaultKind::Depth, at, Layer::Expression));
+        }
+        match command {
+            ExpressionCommand::Leaf(leaf) => self.check_leaf(leaf, at),
+            ExpressionCommand::Binary(op, place) => {
+                let first = self.check_expression(at + 3, left - 1)?;
+                first_fits(op, place, at, first)?;
+                let second = self.check_expression(first.0, left - 1)?;
+                both_fit(op, first, second)
+            }
+            ExpressionCommand::Not => {
+                let only = self.check_expression(at + 1, left - 1)?;
+                one_fits(at, only)
+            }
         }
     }
 }

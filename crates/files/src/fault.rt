@@ -1,6 +1,10 @@
 // The fault of a file that is refused.
-ghost use Rattle.std.specs.Prelude.{◌≡◌};
+ghost use Rattle.std.specs.Prelude.{◌≡◌, Some};
 ghost use Rattle.files.specs.Faults.{fault_number, layer_number};
+ghost use Rattle.files.specs.Answers.{fault_text};
+
+use std::error::Error;
+use std::fmt;
 
 #[derive(Clone, Copy, PartialEq, Eq, Debug)]
 pub enum FaultKind {
@@ -42,11 +46,11 @@ pub struct LoadFault {
     pub layer: Layer,
 }
 
-impl FaultKind {
-    pub fn number(self) -> u8
-        ensures { result ≡ fault_number self }
-    {
-        match self {
+impl From<FaultKind> for u8 {
+    ghost from_gives = { λ k n. n ≡ fault_number k };
+
+    fn from(kind: FaultKind) -> u8 {
+        match kind {
             FaultKind::Length => 1,
             FaultKind::FirstBytes => 2,
             FaultKind::ClassHead => 3,
@@ -61,11 +65,11 @@ impl FaultKind {
     }
 }
 
-impl Layer {
-    pub fn number(self) -> u8
-        ensures { result ≡ layer_number self }
-    {
-        match self {
+impl From<Layer> for u8 {
+    ghost from_gives = { λ l n. n ≡ layer_number l };
+
+    fn from(layer: Layer) -> u8 {
+        match layer {
             Layer::File => 1,
             Layer::ClassHead => 2,
             Layer::Statement => 3,
@@ -74,3 +78,15 @@ impl Layer {
         }
     }
 }
+
+impl fmt::Display for LoadFault {
+    ghost output = { λ x. Some (fault_text x) };
+
+    fn fmt<W: fmt::Write>(&self, f: &mut fmt::Formatter<W>) -> fmt::Result {
+        let number = u8::from(self.kind);
+        let layer = u8::from(self.layer);
+        write!(f, "refused {number} place {} layer {layer}", self.place)
+    }
+}
+
+impl Error for LoadFault {}

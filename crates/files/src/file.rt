@@ -1,15 +1,17 @@
 // The check of a whole file.
-ghost use Rattle.std.specs.Prelude.{◌≡◌, ◌+◌, ◌*◌, ◌<◌, ◌≤◌, ◌&&◌, length, IfOk, OnOk};
+ghost use Rattle.std.specs.Prelude.{◌≡◌, ◌≤◌, Some, length, OnOk};
 ghost use Rattle.files.specs.Files.{check_body, check_class, check_classes, header_classes, check_file};
+ghost use Rattle.files.specs.Answers.{summary_text};
 ghost use Rattle.files.specs.Summaries.{summed};
 
 use crate::behaviour::check_behaviour;
+use crate::body::Body;
 use crate::bytes::word_at;
 use crate::checked::{ask, fault};
 use crate::class::scope_at;
 use crate::fault::{FaultKind, Layer, LoadFault};
-use crate::head::check_head;
-use crate::statement::check_statement;
+use crate::head::{check_head, inside};
+use std::fmt;
 
 // The levels that commands may nest.
 pub const LEVELS: u8 = 32;
@@ -23,45 +25,48 @@ pub struct Summary {
     pub processes: u8,
 }
 
+impl fmt::Display for Summary {
+    ghost output = { λ s. Some (summary_text s) };
+
+    fn fmt<W: fmt::Write>(&self, f: &mut fmt::Formatter<W>) -> fmt::Result {
+        let Summary {
+            classes,
+            processes,
+            ..
+        } = *self;
+        write!(f, "admitted classes {classes} processes {processes}")
+    }
+}
+
 // Head and statement of the class whose bytes begin at `at` and end with the slice.
 fn check_body(file: &[u8], at: usize) -> Result<(), LoadFault>
-    requires { at ≤ length file.now }
     ensures { result ≡ check_body file.now at }
 {
     let statement = check_head(file, at)?;
-    let end = check_statement(file, statement, LEVELS, scope_at(file, at))?;
-    ask(
-        end.0 == file.len(),
-        FaultKind::Command,
-        end.0,
-        Layer::Statement,
-    )
+    let scope = scope_at(file, at);
+    let (end, _) = Body { file, scope }.check_statement(statement, LEVELS)?;
+    ask(end == file.len(), FaultKind::Command, end, Layer::Statement)
 }
 
 // The class at a place, and the place behind it.
 fn check_class(file: &[u8], at: usize) -> Result<usize, LoadFault>
-    requires { at ≤ length file.now }
-    ensures exact { result ≡ check_class file.now at }
-    ensures within { IfOk result (λ v. v ≤ length file.now) }
+    ensures { result ≡ check_class file.now at }
 {
-    if at + 2 > file.len() {
-        return Err(fault(FaultKind::ClassHead, at, Layer::ClassHead));
-    }
-    let end = at + 2 + word_at(file, at) as usize;
-    if end > file.len() {
-        return Err(fault(FaultKind::ClassHead, at, Layer::ClassHead));
-    }
-    check_body(&file[0..end], at + 2)?;
+    inside(file, at, 2)?;
+    let bytes = word_at(file, at) as usize;
+    inside(file, at, 2 + bytes)?;
+    let end = at + 2 + bytes;
+    check_body(&file[..end], at + 2)?;
     Ok(end)
 }
 
 // The classes one after the other, and the place behind them.
+#[tactic(auto, using(crate::proofs::Filing::classes_step))]
 fn check_classes(file: &[u8], count: u8, start: usize) -> Result<usize, LoadFault>
-    requires { start ≤ length file.now }
-    ensures exact { result ≡ check_classes count file.now start }
-    ensures within { IfOk result (λ v. v ≤ length file.now) }
+    ensures { result ≡ check_classes count file.now start }
 {
     let mut at = start;
+    // a class begins where the one before it ends; with `try_fold` in its place the clause stayed open
     for _i in 0..count {
         at = check_class(file, at)?;
     }
@@ -81,7 +86,7 @@ fn check_header(file: &[u8]) -> Result<u8, LoadFault>
     ask(*second == 0x53, FaultKind::FirstBytes, 1, Layer::File)?;
     ask(*third == 0x01, FaultKind::FirstBytes, 2, Layer::File)?;
     ask(
-        *classes >= 1 && *classes <= 8,
+        (1..=8).contains(classes),
         FaultKind::FirstBytes,
         3,
         Layer::File,

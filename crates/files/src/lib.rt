@@ -2,6 +2,7 @@
 #![tactic(auto)]
 
 pub(crate) mod behaviour;
+pub(crate) mod body;
 pub(crate) mod bytes;
 pub(crate) mod checked;
 pub mod class;
@@ -11,7 +12,6 @@ pub(crate) mod expression;
 pub mod fault;
 pub mod file;
 pub(crate) mod head;
-pub(crate) mod kinds;
 pub(crate) mod operands;
 pub(crate) mod statement;
 pub mod variables;

@@ -1,60 +1,37 @@
 // The operands of SEND and RECV.
 ghost use Rattle.std.specs.Prelude.{◌≡◌, ◌≤◌, true, ◌&&◌, length};
-ghost use Rattle.files.specs.Heads.{kinds_at};
-ghost use Rattle.files.specs.Statements.{exchange_fits, member, distinct, all_below, all_unused, variables_fit};
+ghost use Rattle.files.specs.Statements.{exchange_fits, distinct, all_below, all_unused, variables_fit};
 
-// Marks a variable of a RECV that is not used.
+// Marks a variable of a RECV that is not used. A number, since the byte FF is the file's format.
 const UNUSED: u8 = 255;
 
+// Channel, message and count stay parameters, here and in the checks: a command has them apart.
 pub(crate) fn exchange_fits(channel: u8, message: u8, count: u8) -> bool
     ensures { result ≡ exchange_fits channel message count }
 {
     channel < 32 && message < 255 && count < 5
 }
 
-fn is_member(x: u8, list: &[u8]) -> bool
-    ensures { result ≡ member x list.now }
-{
-    for y in list {
-        if x == *y {
-            return true;
-        }
-    }
-    false
-}
-
 // Whether no two are the same.
 fn are_distinct(list: &[u8]) -> bool
     ensures { result ≡ distinct list.now }
 {
-    for (i, x) in list.iter().enumerate() {
-        if is_member(*x, &list[i + 1..]) {
-            return false;
-        }
+    match list {
+        [] => true,
+        [first, rest @ ..] => !rest.contains(first) && are_distinct(rest),
     }
-    true
 }
 
 fn are_below(bound: u8, list: &[u8]) -> bool
     ensures { result ≡ all_below bound list.now }
 {
-    for x in list {
-        if *x >= bound {
-            return false;
-        }
-    }
-    true
+    list.iter().all(|x| *x < bound)
 }
 
 fn are_unused(list: &[u8]) -> bool
     ensures { result ≡ all_unused list.now }
 {
-    for x in list {
-        if *x != UNUSED {
-            return false;
-        }
-    }
-    true
+    list.iter().all(|x| *x == UNUSED)
 }
 
 // The variables of a RECV: the used ones exist and differ, the others are FF.

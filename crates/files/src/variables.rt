@@ -17,11 +17,7 @@ pub struct Variables {
 pub(crate) fn kind_at(file: &[u8], at: usize) -> Kind
     ensures { result ≡ kind_at file.now at }
 {
-    if byte_at(file, at) == 2 {
-        Kind::Boolean
-    } else {
-        Kind::Integer
-    }
+    Kind::try_from(byte_at(file, at)).unwrap_or(Kind::Integer)
 }
 
 impl Variables {
@@ -30,10 +26,6 @@ impl Variables {
         requires { self.at + 6 * self.count ≤ length file.now }
         ensures { result ≡ slice_get (kinds_at self.count file.now self.at) variable }
     {
-        if variable < self.count {
-            Some(kind_at(file, self.at + 6 * variable as usize))
-        } else {
-            None
-        }
+        (variable < self.count).then(|| kind_at(file, self.at + 6 * variable as usize))
     }
 }

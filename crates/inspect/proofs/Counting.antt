@@ -6,27 +6,12 @@ use Rattle.admission.specs.Conditions.{most_fronts}
 use Rattle.processes.specs.Found.{front_numbered}
 use Rattle.processes.specs.Fronts.{Front}
 use Rattle.processes.specs.Laws.{Ascend}
+use Rattle.processes.proofs.Ascending.{ascend_short, ascend_below, none_before}
 use Rattle.processes.proofs.Kept.{few_fronts}
 use Rattle.processes.proofs.Numbered.{numbered}
 use Rattle.classes.specs.declared.fresh.Fresh.{Fresh}
 use Rattle.classes.specs.Starts.{FreshOf}
 use Rattle.inspect.specs.Offers.{first_fronts}
-
-least : (from : ℕ) (xs : List Front) (below : ℕ) → Ascend from xs below → from ≤ below
-least from [] below h = h
-least from (x ∷ xs) below h = omega (arith, h.0, least (x.number + 1) xs below h.1)
-
-wider : (from : ℕ) (xs : List Front) (below more : ℕ) → below ≤ more → Ascend from xs below → Ascend from xs more
-wider from [] below more l h = omega (arith, h)
-wider from (x ∷ xs) below more l h = (h.0, wider (x.number + 1) xs below more l h.1)
-
--- no front has a number below the first
-absent : (k from : ℕ) (xs : List Front) (below : ℕ) → k < from → Ascend from xs below → front_numbered k xs ≡ None
-absent k from [] below l h = refl
-absent k from (x ∷ xs) below l h =
-    let other = ne_eqb x.number k (λ e. omega (arith, h.0)) in
-    let later = absent k (x.number + 1) xs below (omega (arith, h.0)) h.1 in
-    rw (other, later)
 
 -- the fronts from a number on, behind those that were counted
 pub record Counted (all : List Front) (count number : ℕ) : Type 0 where
@@ -40,7 +25,7 @@ counted_start f c p h =
     let few = few_fronts _ _ c.statement h.process.class_kept.statement_kept in
     record {
       rest = first_fronts c;
-      ascend = wider 0 (first_fronts c) (0 + most_fronts c.statement) 8 (omega (arith, few)) (numbered c.variables 0 c.statement []);
+      ascend = ascend_below 0 (0 + most_fronts c.statement) 8 (first_fronts c) (omega (arith, few)) (numbered c.variables 0 c.statement []);
       same = λ k l. refl;
       many = omega arith;
     }
@@ -68,7 +53,7 @@ module _ (all : List Front) (count number : ℕ) (less : number < 8) where
 
       later : (x.number ≡ number → ⊥) → Counted all (count + 1) (number + 1)
       later ne =
-          let none : front_numbered number (x ∷ xs) ≡ None = absent number (number + 1) (x ∷ xs) 8 (omega arith) (omega (arith, a.0, ne), a.1) in
+          let none : front_numbered number (x ∷ xs) ≡ None = none_before number (number + 1) 8 (x ∷ xs) (omega (arith, a.0, ne), a.1) (omega arith) in
           absurd (not_both (is_some (front_numbered number all)) h (ap is_some (s number (omega arith) ∙ none)))
 
   passed : (rest : List Front) → Ascend number rest 8 → Same rest → count + length rest ≡ length all → is_some (front_numbered number all) ≡ false → Counted all count (number + 1)
@@ -89,9 +74,5 @@ module _ (all : List Front) (count number : ℕ) (less : number < 8) where
   pub counted_same : (b : Bool) → b ≡ false → b ≡ is_some (front_numbered number all) → Counted all count number → Counted all count (number + 1)
   counted_same b t e h = passed h.rest h.ascend h.same h.many (sym e ∙ t)
 
-none_left : (number : ℕ) (rest : List Front) → 8 ≤ number → Ascend number rest 8 → length rest ≡ 0
-none_left number [] past a = refl
-none_left number (x ∷ xs) past a = absurd (omega (arith, a.0, least (x.number + 1) xs 8 a.1))
-
 pub counted_all : (all : List Front) (count number : ℕ) → 8 ≤ number → Counted all count number → count ≡ length all
-counted_all all count number past h = omega (arith, h.many, none_left number h.rest past h.ascend)
+counted_all all count number past h = omega (arith, h.many, past, ascend_short number 8 h.rest h.ascend)

@@ -1,45 +1,32 @@
 // The command `check`: whether a model file is admitted.
-use crate::hex::{HexFault, bytes_of};
+use crate::digits::bytes_of;
 use admission::load::examine;
 
-// Says why words are no bytes.
-pub fn print_hex_fault(rt: &HostRuntime, words: &[&str], fault: HexFault) -> anyhow::Result<()> {
-    match fault {
-        HexFault::Memory => println!(rt; "wrong: there is not enough memory for this line")?,
-        HexFault::Odd => println!(rt;
-            "wrong: expected two digits for each byte, found an odd number of digits"
-        )?,
-        HexFault::Digit(word) => match words.get(word.saturating_sub(1)) {
-            Some(text) => println!(rt;
-                "wrong: word {word}: expected hexadecimal digits, found '{text}'"
-            )?,
-            None => println!(rt; "wrong: word {word}: expected hexadecimal digits")?,
-        },
+// Answers for the bytes that words write, or says why they write none.
+// The host is passed beside the bytes everywhere: it is what may be done, not data.
+pub fn answer_bytes<F: FnOnce(&HostRuntime, &[u8]) -> anyhow::Result<()>>(
+    rt: &HostRuntime,
+    words: &[&str],
+    answer: F,
+) -> anyhow::Result<()>
+    requires { F.IsAlwaysCallable answer }
+{
+    match bytes_of(rt.alloc(), words) {
+        Ok(file) => answer(rt, file.as_slice())?,
+        Err(fault) => println!(rt; "wrong: {fault}")?,
     }
     Ok(())
 }
 
-// Answers for the bytes of a file.
+// Answers for the bytes of a file; a fault is an answer too, so it is printed and not passed up.
 pub fn print_check(rt: &HostRuntime, file: &[u8]) -> anyhow::Result<()> {
     match examine(file) {
-        Ok(summary) => {
-            let classes = summary.classes;
-            let processes = summary.processes;
-            println!(rt; "admitted classes {classes} processes {processes}")?;
-        }
-        Err(fault) => {
-            let number = fault.kind.number();
-            let place = fault.place;
-            let layer = fault.layer.number();
-            println!(rt; "refused {number} place {place} layer {layer}")?;
-        }
+        Ok(summary) => println!(rt; "{summary}")?,
+        Err(fault) => println!(rt; "{fault}")?,
     }
     Ok(())
 }
 
 pub fn check(rt: &HostRuntime, words: &[&str]) -> anyhow::Result<()> {
-    match bytes_of(rt.alloc(), words) {
-        Ok(file) => print_check(rt, file.as_slice()),
-        Err(fault) => print_hex_fault(rt, words, fault),
-    }
+    answer_bytes(rt, words, print_check)
 }

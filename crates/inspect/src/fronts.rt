@@ -1,28 +1,28 @@
 // The command `fronts`: what a fresh process of each class can do first.
-ghost use Rattle.std.specs.Prelude.{◌≡◌, ◌≤◌, length, is_some, Ok};
+ghost use Rattle.std.specs.Prelude.{◌≡◌, length, is_some, Ok};
 ghost use Rattle.commands.specs.Trees.{Class, File};
 ghost use Rattle.admission.specs.Read.{read};
 ghost use Rattle.processes.specs.Found.{front_numbered, Answers};
 ghost use Rattle.classes.specs.Classes.{ClassOf};
 ghost use Rattle.classes.specs.Starts.{FreshOf};
-ghost use Rattle.inspect.specs.Offers.{first_fronts, HasPlaces};
+ghost use Rattle.inspect.specs.Offers.{first_fronts};
 
-use crate::check::{print_check, print_hex_fault};
-use crate::hex::bytes_of;
+use crate::check::{answer_bytes, print_check};
 use admission::load::examine;
 use classes::fresh::Fresh;
+use commands::text::Spaced;
 use processes::finding::front_of_places;
-use processes::front::{Action, Front, Sent, Targets};
-use processes::left::Left;
+use processes::front::{Action, Front};
+use std::fmt;
 use values::row::Row;
 
 // The front of a number of a fresh process; none where it does not offer it.
+// File and process are no struct with a ghost field: such a fact has to have one proof at most, and this one names a class.
 fn first_front(file: &[u8], process: Fresh, number: u8) -> Option<Front>
     requires { (c : Class) × FreshOf file.now c process }
-    ensures exact { (c : Class) → FreshOf file.now c process → Answers file.now result (front_numbered number (first_fronts c)) }
-    ensures places { HasPlaces result }
+    ensures { (c : Class) → FreshOf file.now c process → Answers file.now result (front_numbered number (first_fronts c)) }
 {
-    let variables = &process.rows[0..process.variables as usize];
+    let variables = &process.rows[..process.variables as usize];
     front_of_places(file, process.left, variables, number)
 }
 
@@ -34,6 +34,7 @@ fn is_offered(file: &[u8], process: Fresh, number: u8) -> bool
 }
 
 // How many fronts a fresh process offers.
+// Not `filter` and `count`: what `is_offered` says for each class is lost in the proof of a chain.
 fn count_fronts(file: &[u8], process: Fresh) -> u8
     requires { (c : Class) × FreshOf file.now c process }
     ensures { (c : Class) → FreshOf file.now c process → result ≡ length (first_fronts c) }
@@ -47,69 +48,52 @@ fn count_fronts(file: &[u8], process: Fresh) -> u8
     count
 }
 
-fn print_row(rt: &HostRuntime, row: Row) -> anyhow::Result<()> {
-    let value = row.value();
-    print!(rt; " {value}")?;
-    Ok(())
+// A front by its number, as a line.
+#[derive(Drop)]
+struct Line {
+    number: u8,
+    front: Front,
 }
 
-fn print_send(rt: &HostRuntime, channel: u8, message: u8, sent: Sent) -> anyhow::Result<()> {
-    print!(rt; "send {channel} {message}")?;
-    for row in sent.rows.iter().take(sent.count as usize) {
-        print_row(rt, *row)?;
-    }
-    Ok(())
-}
-
-fn print_receive(
-    rt: &HostRuntime,
+fn write_send<W: fmt::Write>(
+    f: &mut fmt::Formatter<W>,
     channel: u8,
     message: u8,
-    targets: Targets,
-) -> anyhow::Result<()> {
-    print!(rt; "receive {channel} {message}")?;
-    for variable in targets.variables.iter().take(targets.count as usize) {
-        print!(rt; " {variable}")?;
+    values: &[Row],
+) -> fmt::Result {
+    write!(f, "send {channel} {message}")?;
+    for row in values {
+        write!(f, " {}", row.value())?;
     }
     Ok(())
 }
 
-fn print_action(rt: &HostRuntime, action: Action) -> anyhow::Result<()> {
+// A function, since a type of another crate can have no Display here.
+fn write_action<W: fmt::Write>(f: &mut fmt::Formatter<W>, action: &Action) -> fmt::Result {
     match action {
-        Action::Internal => {
-            print!(rt; "internal")?;
-            Ok(())
+        Action::Internal => write!(f, "internal"),
+        Action::Store(variable, row) => write!(f, "set {variable} {}", row.value()),
+        Action::Send(channel, message, sent) => write_send(f, *channel, *message, sent.as_slice()),
+        Action::Receive(channel, message, targets) => {
+            let into = Spaced(targets.as_slice());
+            write!(f, "receive {channel} {message}{into}")
         }
-        Action::Store(variable, row) => {
-            print!(rt; "set {variable}")?;
-            print_row(rt, row)
-        }
-        Action::Send(channel, message, sent) => print_send(rt, channel, message, sent),
-        Action::Receive(channel, message, targets) => print_receive(rt, channel, message, targets),
     }
 }
 
-// The places of the statements that are left, the first of them first.
-fn print_places(rt: &HostRuntime, leaves: Left) -> anyhow::Result<()>
-    requires { leaves.count ≤ 32 }
-{
-    let mut left = leaves;
-    while let Some((place, rest)) = left.split() {
-        print!(rt; " {place}")?;
-        left = rest;
+impl fmt::Display for Line {
+    fn fmt<W: fmt::Write>(&self, f: &mut fmt::Formatter<W>) -> fmt::Result {
+        write!(f, "{} ", self.number)?;
+        write_action(f, &self.front.action)?;
+        write!(f, " leaves")?;
+        // what remains is stored last first, and `split` alone takes it apart in order
+        let mut left = self.front.leaves;
+        while let Some((place, rest)) = left.split() {
+            write!(f, " {place}")?;
+            left = rest;
+        }
+        Ok(())
     }
-    Ok(())
-}
-
-fn print_front(rt: &HostRuntime, number: u8, front: Front) -> anyhow::Result<()>
-    requires { front.leaves.count ≤ 32 }
-{
-    print!(rt; "{number} ")?;
-    print_action(rt, front.action)?;
-    print!(rt; " leaves")?;
-    print_places(rt, front.leaves)?;
-    println!(rt; "")?;
-    Ok(())
 }
 
 fn print_class(rt: &HostRuntime, file: &[u8], class: u8) -> anyhow::Result<()>
@@ -118,14 +102,17 @@ fn print_class(rt: &HostRuntime, file: &[u8], class: u8) -> anyhow::Result<()>
     let process = Fresh::of(file, class);
     let count = count_fronts(file, process);
     println!(rt; "class {class} fronts {count}")?;
+    // by number: no list of the fronts stands in memory
     for number in 0..8 {
         if let Some(front) = first_front(file, process, number) {
-            print_front(rt, number, front)?;
+            let line = Line { number, front };
+            println!(rt; "{line}")?;
         }
     }
     Ok(())
 }
 
+// By number: `Fresh::of` finds a class by it, and no list of them stands in memory.
 fn print_classes(rt: &HostRuntime, file: &[u8], count: u8) -> anyhow::Result<()>
     requires { (t : File) × (read file.now ≡ Ok t) × (count ≡ length t.classes) }
 {
@@ -143,8 +130,5 @@ fn print_fronts(rt: &HostRuntime, file: &[u8]) -> anyhow::Result<()> {
 }
 
 pub fn fronts(rt: &HostRuntime, words: &[&str]) -> anyhow::Result<()> {
-    match bytes_of(rt.alloc(), words) {
-        Ok(file) => print_fronts(rt, file.as_slice()),
-        Err(fault) => print_hex_fault(rt, words, fault),
-    }
+    answer_bytes(rt, words, print_fronts)
 }

@@ -2,5 +2,5 @@
 #![tactic(auto)]
 
 pub mod check;
+pub mod digits;
 pub mod fronts;
-pub mod hex;

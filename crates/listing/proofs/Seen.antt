@@ -3,7 +3,7 @@ use Rattle.std.proofs.Common.{◌≡◌, ℕ, zero, suc, ◌<◌, ◌≤◌, Boo
 use Rattle.std.proofs.lemmas.List.{length-map}
 use Rattle.std.specs.List.{flat_map, AllByRecursion}
 use Rattle.values.specs.declared.kind.Kind.{Kind}
-use Rattle.values.specs.declared.kind.Kind.TheVariants.{Integer, Boolean}
+use Rattle.values.specs.Kinds.{same_kind}
 use Rattle.values.specs.Values.{Val, integer, kind_of}
 use Rattle.commands.specs.Trees.{Behaviour}
 use Rattle.files.specs.Statements.{same_kinds}
@@ -14,35 +14,26 @@ use Rattle.records.specs.Steps as step
 use Rattle.steps.specs.Steps as steps
 use Rattle.steps.specs.Steps.{over, agreed, target_kinds, steps_of, internal_by, send_by, receive_by, send_meets, receive_meets}
 use Rattle.listing.specs.declared.offer.Offer.{Offer}
-use Rattle.listing.specs.Offers.{kind_bytes, seen, offer_of, alike, agree, met, passing, common_channel, internal_steps, meeting_steps, meetings, outside_sends, outside_receives, listed, Holdable, HoldableAction, ArrivesBy}
+use Rattle.listing.specs.Offers.{kind_places, exchange, seen, offer_of, alike, agree, met, passing, common_channel, internal_steps, meeting_steps, meetings, outside_sends, outside_receives, listed, Holdable, HoldableAction, ArrivesBy}
 
--- kinds are the same where their bytes are
-alike_behind : (n i x y : ℕ) (xs ys : List ℕ) → alike n (suc i) (x ∷ xs) (y ∷ ys) ≡ alike n i xs ys
-alike_behind zero i x y xs ys = refl
-alike_behind (suc n) i x y xs ys = ap (λ t. eqb (get_or xs i 0) (get_or ys i 0) && t) (alike_behind n (suc i) x y xs ys)
-
-pub kinds_alike : (n : ℕ) (ks js : List Kind) → length ks ≤ n → length js ≤ n → alike n 0 (kind_bytes n ks) (kind_bytes n js) ≡ same_kinds ks js
+-- kinds are the same where their places are
+pub kinds_alike : (n : ℕ) (ks js : List Kind) → length ks ≤ n → length js ≤ n → alike (kind_places n ks) (kind_places n js) ≡ same_kinds ks js
 kinds_alike zero [] [] h k = refl
 kinds_alike zero [] (j ∷ js) h k = absurd (omega arith)
 kinds_alike zero (k ∷ ks) js h l = absurd (omega arith)
-kinds_alike (suc n) [] [] h k = alike_behind n 0 _ _ (kind_bytes n []) (kind_bytes n []) ∙ kinds_alike n [] [] (omega arith) (omega arith)
-kinds_alike (suc n) [] (Integer ∷ js) h k = refl
-kinds_alike (suc n) [] (Boolean ∷ js) h k = refl
-kinds_alike (suc n) (Integer ∷ ks) [] h k = refl
-kinds_alike (suc n) (Boolean ∷ ks) [] h k = refl
-kinds_alike (suc n) (Integer ∷ ks) (Integer ∷ js) h k = alike_behind n 0 _ _ (kind_bytes n ks) (kind_bytes n js) ∙ kinds_alike n ks js (omega arith) (omega arith)
-kinds_alike (suc n) (Integer ∷ ks) (Boolean ∷ js) h k = refl
-kinds_alike (suc n) (Boolean ∷ ks) (Integer ∷ js) h k = refl
-kinds_alike (suc n) (Boolean ∷ ks) (Boolean ∷ js) h k = alike_behind n 0 _ _ (kind_bytes n ks) (kind_bytes n js) ∙ kinds_alike n ks js (omega arith) (omega arith)
+kinds_alike (suc n) [] [] h k = kinds_alike n [] [] (omega arith) (omega arith)
+kinds_alike (suc n) [] (j ∷ js) h k = refl
+kinds_alike (suc n) (k ∷ ks) [] h l = refl
+kinds_alike (suc n) (k ∷ ks) (j ∷ js) h l = ap (λ t. same_kind k j && t) (kinds_alike n ks js (omega arith) (omega arith))
 
 -- lists of steps
 over_passing : (o : Option ℕ) (s : ℕ → Step) → optional (passing o s) ≡ over o s
 over_passing None s = refl
 over_passing (Some k) s = refl
 
-over_met : (s r : Offer) (o : Option ℕ) → optional (met s r o) ≡ over o (λ k. step.meeting s.process s.front r.process r.front k s.message)
-over_met s r None = refl
-over_met s r (Some k) = refl
+over_met : (s r : Offer) (m : ℕ) (o : Option ℕ) → optional (met s r m o) ≡ over o (λ k. step.meeting s.process s.front r.process r.front k m)
+over_met s r m None = refl
+over_met s r m (Some k) = refl
 
 listed_when : (t : Bool) (s : Option Step) → optional (cond t s None) ≡ cond t (optional s) []
 listed_when true s = refl
@@ -53,7 +44,7 @@ module _ {X Y : Type 0} (g : X → Y) (P : X → Type 0) (f : Y → List Step) (
   joined_same [] a = refl
   joined_same (x ∷ xs) a = let e = same x a.0 in let r = joined_same xs a.1 in (λ i. e i ++ r i)
 
-module _ (b : Behaviour) (t : List ℕ) (arrives : ArrivesBy t b) where
+module _ (b : Behaviour) (t : List (Option ℕ)) (arrives : ArrivesBy t b) where
   internal_same : (o : steps.Offer) → internal_steps (offer_of o) ≡ steps.internal_steps o
   internal_same o = go o.process o.front.number o.variables o.front.does
     where
@@ -95,10 +86,12 @@ module _ (b : Behaviour) (t : List ℕ) (arrives : ArrivesBy t b) where
       let e = arrives.meets q' p' d q p k.0 in
       let S = seen p' s.front.number s.variables (sends c m xs) in
       let R = seen q' r.front.number r.variables (receives d n ws) in
-      listed_when (agree S R) (met S R (common_channel t S R))
-      ∙ ap (λ v. cond (not (eqb p' q') && (eqb m n && v)) (optional (met S R (common_channel t S R))) []) kinds
+      let found = met S R m (common_channel t p' c q' d) in
+      let same = agree (exchange c m (map kind_of xs)) (exchange d n (target_kinds r.variables ws)) in
+      listed_when (not (eqb p' q') && same) found
+      ∙ ap (λ v. cond (not (eqb p' q') && (eqb m n && v)) (optional found) []) kinds
       ∙ ap (λ v. cond (not (eqb p' q') && (eqb m n && same_kinds (map kind_of xs) (target_kinds r.variables ws))) v [])
-      (over_met S R (common_channel t S R) ∙ (λ i. over (agreed (a i) (e i)) (λ k. step.meeting p' s.front.number q' r.front.number k m)))
+      (over_met S R m (common_channel t p' c q' d) ∙ (λ i. over (agreed (a i) (e i)) (λ k. step.meeting p' s.front.number q' r.front.number k m)))
 
   abbrev pair_meets : steps.Offer → steps.Offer → Action → Action → List Step
   pair_meets s r internal a' = []

@@ -1,8 +1,10 @@
 // Listing: every step of the offers, in the stated order.
-ghost use Rattle.std.specs.Prelude.{◌≡◌};
+ghost use Rattle.std.specs.Prelude.{◌≡◌, Option};
 ghost use Rattle.std.specs.List.{flat_map};
+ghost use Rattle.records.specs.declared.step.Step.{Step as StepRow};
 ghost use Rattle.records.specs.Lists.{Room, Grown};
-ghost use Rattle.listing.specs.Offers.{internal_step, common_channel, meeting_step, meetings, send_step, receive_step, alone_step, alone_steps, listed};
+ghost use Rattle.listing.specs.declared.offer.Offer.{Offer as Offered};
+ghost use Rattle.listing.specs.Offers.{internal_step, common_channel, meeting_step, meetings, send_step, receive_step, made, Computes, listed};
 
 use crate::offer::{Offer, Role};
 use arrivals::table::Arrivals;
@@ -15,99 +17,69 @@ fn internal(o: &Offer) -> Option<Step>
 {
     match o.role {
         Role::Internal => Some(Step::internal(o.process, o.front)),
-        Role::Send => None,
-        Role::Receive => None,
+        Role::Send(_) | Role::Receive(_) => None,
     }
 }
 
-// The channel as which a send and a receive both arrive at the lowest PAR above their processes.
-fn common_channel(send: &Offer, receive: &Offer, arrivals: &Arrivals) -> Option<u8>
-    ensures { result ≡ common_channel arrivals.now.channels send.now receive.now }
+// The channel as which channels of two processes both arrive at the lowest PAR above them.
+fn common_channel(arrivals: &Arrivals, p: u8, sent: u8, q: u8, received: u8) -> Option<u8>
+    ensures { result ≡ common_channel arrivals.now.channels p sent q received }
 {
-    let sent = arrivals.meeting(send.process, receive.process, send.channel)?;
-    let received = arrivals.meeting(receive.process, send.process, receive.channel)?;
-    if sent == received { Some(sent) } else { None }
+    let sent = arrivals.meeting(p, q, sent)?;
+    let received = arrivals.meeting(q, p, received)?;
+    (sent == received).then_some(sent)
 }
 
-// The step of a send and a receive that meet.
+// The step of a send and a receive that meet: of different processes, which agree in what they exchange.
 fn meeting(send: &Offer, receive: &Offer, arrivals: &Arrivals) -> Option<Step>
     ensures { result ≡ meeting_step arrivals.now.channels send.now receive.now }
 {
-    let Role::Send = send.role else {
+    let (Role::Send(sent), Role::Receive(wanted)) = (send.role, receive.role) else {
         return None;
     };
-    let Role::Receive = receive.role else {
-        return None;
-    };
-    if !send.agrees(receive) {
+    if send.process == receive.process || !sent.agrees(&wanted) {
         return None;
     }
-    let channel = common_channel(send, receive, arrivals)?;
-    Some(Step::meeting(
-        send.process,
-        send.front,
-        receive.process,
-        receive.front,
-        channel,
-        send.message,
-    ))
+    let (p, q) = (send.process, receive.process);
+    let channel = common_channel(arrivals, p, sent.channel, q, wanted.channel)?;
+    Some(Step::meeting(p, send.front, q, receive.front, channel, sent.message))
 }
 
 // The step of a send whose channel passes the root.
 fn outside_send(o: &Offer, arrivals: &Arrivals) -> Option<Step>
     ensures { result ≡ send_step arrivals.now.channels o.now }
 {
-    let Role::Send = o.role else {
+    let Role::Send(sent) = o.role else {
         return None;
     };
-    let channel = arrivals.outside(o.process, o.channel)?;
-    Some(Step::outside_send(o.process, o.front, channel, o.message))
+    let channel = arrivals.outside(o.process, sent.channel)?;
+    Some(Step::outside_send(o.process, o.front, channel, sent.message))
 }
 
 // The step of a receive whose channel passes the root.
+// Apart from that of a send: one function would be handed the variant to match and the step to make.
 fn outside_receive(o: &Offer, arrivals: &Arrivals) -> Option<Step>
     ensures { result ≡ receive_step arrivals.now.channels o.now }
 {
-    let Role::Receive = o.role else {
+    let Role::Receive(wanted) = o.role else {
         return None;
     };
-    let channel = arrivals.outside(o.process, o.channel)?;
-    Some(Step::outside_receive(o.process, o.front, channel, o.message))
+    let channel = arrivals.outside(o.process, wanted.channel)?;
+    Some(Step::outside_receive(o.process, o.front, channel, wanted.message))
 }
 
-// The step that a front makes by itself: an internal one, or an outside send or receive.
-fn alone(o: &Offer, role: Role, arrivals: &Arrivals) -> Option<Step>
-    ensures { result ≡ alone_step arrivals.now.channels role o.now }
-{
-    match role {
-        Role::Internal => internal(o),
-        Role::Send => outside_send(o, arrivals),
-        Role::Receive => outside_receive(o, arrivals),
-    }
-}
-
-// The steps that fronts of one role make by themselves.
-fn put_alone(offers: &[Offer], role: Role, arrivals: &Arrivals, out: &mut RecordList<'_, Step>)
-    requires { Room out.old (flat_map (alone_steps arrivals.now.channels role) offers.now) }
-    ensures { Grown out.old out.new (flat_map (alone_steps arrivals.now.channels role) offers.now) }
-{
-    for o in offers {
-        out.append_some(alone(o, role, arrivals));
-    }
-}
-
-// The meetings of one sender.
-fn put_meetings_of(
-    send: &Offer,
+// The steps that a function makes of offers, in their order.
+fn put_each<F: Fn(&Offer) -> Option<Step>>(
     offers: &[Offer],
-    arrivals: &Arrivals,
+    step_of: F,
     out: &mut RecordList<'_, Step>,
 )
-    requires { Room out.old (meetings arrivals.now.channels offers.now send.now) }
-    ensures { Grown out.old out.new (meetings arrivals.now.channels offers.now send.now) }
+    requires callable { F.IsAlwaysCallable step_of }
+    requires room { (f : Offered → Option StepRow) × Computes (F.post step_of) f × Room out.old (made f offers.now) }
+    ensures { (f : Offered → Option StepRow) → Computes (F.post step_of) f → Room out.old (made f offers.now) → Grown out.old out.new (made f offers.now) }
 {
-    for receive in offers {
-        out.append_some(meeting(send, receive, arrivals));
+    for o in offers {
+        out.append_some(step_of(o));
     }
 }
 
@@ -116,7 +88,10 @@ fn put_meetings(offers: &[Offer], arrivals: &Arrivals, out: &mut RecordList<'_, 
     ensures { Grown out.old out.new (flat_map (meetings arrivals.now.channels offers.now) offers.now) }
 {
     for send in offers {
-        put_meetings_of(send, offers, arrivals, out);
+        let meets = |receive: &Offer| -> Option<Step>
+            ensures { result ≡ meeting_step arrivals.entry.now.channels send.entry.now receive.now }
+        { meeting(send, receive, arrivals) };
+        put_each(offers, meets, out);
     }
 }
 
@@ -125,8 +100,14 @@ pub fn put_steps(offers: &[Offer], arrivals: &Arrivals, out: &mut RecordList<'_,
     requires { Room out.old (listed arrivals.now.channels offers.now) }
     ensures { Grown out.old out.new (listed arrivals.now.channels offers.now) }
 {
-    put_alone(offers, Role::Internal, arrivals, out);
+    let sends_outside = |o: &Offer| -> Option<Step>
+        ensures { result ≡ send_step arrivals.entry.now.channels o.now }
+    { outside_send(o, arrivals) };
+    let receives_outside = |o: &Offer| -> Option<Step>
+        ensures { result ≡ receive_step arrivals.entry.now.channels o.now }
+    { outside_receive(o, arrivals) };
+    put_each(offers, internal, out);
     put_meetings(offers, arrivals, out);
-    put_alone(offers, Role::Send, arrivals, out);
-    put_alone(offers, Role::Receive, arrivals, out);
+    put_each(offers, sends_outside, out);
+    put_each(offers, receives_outside, out);
 }

@@ -4,3 +4,4 @@ pub mod Going
 pub mod Fits
 pub mod Fitting
 pub mod Starting
+pub mod Listed

@@ -1,5 +1,5 @@
 -- What the memory of a model stands for.
-use Rattle.std.proofs.Common.{◌≡◌, ℕ, zero, suc, ◌<◌, true, cond, eqb, List, map, None, Ok, Err, refl, ap, ◌∙◌, arith}
+use Rattle.std.proofs.Common.{◌≡◌, ℕ, zero, suc, ◌<◌, true, cond, eqb, List, Option, map, None, Ok, Err, refl, ap, ◌∙◌, arith}
 use Rattle.std.specs.List.{AllByRecursion}
 use Rattle.std.proofs.lemmas.Bool.{eqb-true, lt-ltb}
 use Rattle.commands.specs.ByteLists.{Bytes}
@@ -54,7 +54,7 @@ module _ (m : Model) where
         passes = λ p c lp lc. ap (λ t. arrival_in t p 8 c) (m.travels h) ∙ table_laws.outside _ b p c kept lp lc;
       }
 
-list_is : (ch : List ℕ) (b : Behaviour) (f : List ℕ) (t : Table) (count : ℕ) → (0 < count → ArrivesBy ch b) → AllByRecursion Holdable (offers_from 0 (processes_in f t count)) → listed ch (map offer_of (offers_from 0 (processes_in f t count))) ≡ steps_of b (offers_from 0 (processes_in f t count))
+list_is : (ch : List (Option ℕ)) (b : Behaviour) (f : List ℕ) (t : Table) (count : ℕ) → (0 < count → ArrivesBy ch b) → AllByRecursion Holdable (offers_from 0 (processes_in f t count)) → listed ch (map offer_of (offers_from 0 (processes_in f t count))) ≡ steps_of b (offers_from 0 (processes_in f t count))
 unfolding listed steps_of
 list_is ch b f t zero a h = refl
 list_is ch b f t (suc n) a h = listed_same b ch (a (omega arith)) (offers_from 0 (processes_in f t (suc n))) h

@@ -1,5 +1,5 @@
 -- What the memory of a model keeps.
-use Rattle.std.specs.Prelude.{◌≡◌, ℕ, ◌<◌, Bool, true, false, ◌&&◌, List, Ok, Err, ◌==◌, slice_index_or}
+use Rattle.std.specs.Prelude.{◌≡◌, ℕ, ◌<◌, Bool, true, false, ◌&&◌, List, Option, Ok, Err, ◌==◌, slice_index_or}
 use Rattle.files.specs.Checked.{Checked}
 use Rattle.files.specs.Files.{Summary, check_file, levels}
 use Rattle.parts.specs.Parts.{behaviour_in}
@@ -18,7 +18,7 @@ abbrev pub AdmittedFile : List ℕ → ℕ → ℕ → ℕ → Type 0
 AdmittedFile f n at count = 0 < count → found (check_file f) (n, at, count) ≡ true
 
 -- the table of arrivals is that of its behaviour
-abbrev pub ArrivalsOfFile : List ℕ → ℕ → List ℕ → ℕ → Type 0
+abbrev pub ArrivalsOfFile : List ℕ → ℕ → List (Option ℕ) → ℕ → Type 0
 ArrivalsOfFile f at channels count = 0 < count → channels ≡ arrival_table (behaviour_in levels f at)
 
 -- and each process belongs to its class

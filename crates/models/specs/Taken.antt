@@ -1,5 +1,5 @@
 -- What taking a step answers and leaves.
-use Rattle.std.specs.Prelude.{◌≡◌, List, map, Some, None, Ok, Err, Result}
+use Rattle.std.specs.Prelude.{◌≡◌, List, map, Some, None, Option, Ok, Err, Result}
 use Rattle.values.specs.Rows.{row_of}
 use Rattle.values.specs.Values.{Val}
 use Rattle.records.specs.declared.record.Record.{Record}
@@ -8,6 +8,11 @@ use Rattle.records.specs.Records.{record_of}
 use Rattle.steps.specs.declared.refusal.StepRefusal.{StepRefusal}
 use Rattle.steps.specs.Models.{Model}
 use Rattle.steps.specs.Taking.{refusal, exchanged, after_step}
+
+-- the refusal of a check, if any
+abbrev pub refused : {A : Type 0} → Result A StepRefusal → Option StepRefusal
+refused (Ok a) = None
+refused (Err x) = Some x
 
 -- a step that is taken leaves the model after it, and its record has the values that it exchanged; a refused one leaves the model
 abbrev pub Taken : Model → Model → Step → List Val → Result Record StepRefusal → Type 0

@@ -3,6 +3,7 @@ ghost use Rattle.std.specs.Prelude.{◌≤◌, take};
 ghost use Rattle.models.specs.Sound.{AdmittedFile, ArrivalsOfFile, SoundProcesses};
 
 use arrivals::table::Arrivals;
+pub use gathered::MOST_STEPS;
 use tables::table::Table;
 
 mod advancing;
@@ -13,6 +14,7 @@ mod taking;
 // Where there are processes, the file is admitted, the arrivals are its behaviour's, and every process belongs to its class.
 #[derive(Clone, Copy)]
 pub struct Model {
+    // room for the longest file, and how much of it this one fills: the engine takes nothing from the heap
     file: [u8; 4096],
     length: usize,
     classes: u8,
@@ -20,7 +22,7 @@ pub struct Model {
     behaviour: usize,
     arrivals: Arrivals,
     table: Table,
-    // how many processes there are
+    // how many of the table's eight processes there are: it has one size, like the room of the file
     count: u8,
     ghost short: { length ≤ 4096 },
     ghost few: { count ≤ 8 },

@@ -1,5 +1,5 @@
 -- The tree that stands where a command was read, and the values of a SEND that are still ahead.
-use Rattle.std.proofs.Common.{◌≡◌, ℕ, ◌+◌, ◌-◌, ◌<◌, List, [], ◌∷◌, length, drop, Some, None, sym, ap, ◌∙◌, subst, arith}
+use Rattle.std.proofs.Common.{◌≡◌, ℕ, ◌+◌, ◌-◌, ◌<◌, List, [], ◌∷◌, length, drop, Some, None, ◌⊎◌, inl, inr, sym, ap, ◌∙◌, subst, arith}
 use Rattle.commands.specs.declared.behaviour.BehaviourCommand.{BehaviourCommand}
 use Rattle.commands.specs.declared.behaviour.BehaviourCommand.TheVariants.{Proc, Par, Hide, Rename}
 use Rattle.commands.specs.declared.expression.ExpressionCommand.{ExpressionCommand}
@@ -46,6 +46,34 @@ module _ (f : List ℕ) (at : ℕ) where
 
   pub no_stmt : (u : Stmt) → None ≡ statement_command (drop at f) → StmtAt f at u → ⊥
   no_stmt u h s = let p = (stmt_some u s).1 in let z : ◌≡◌ {A = ℕ} 0 1 = cc in omega arith
+
+  -- the place is that of the command's last part
+  abbrev pub IsLast : StatementCommand → ℕ → Type 0
+  IsLast c p = (c ≡ Seq p) ⊎ ((c ≡ Sel p) ⊎ ((c ≡ Guard p) ⊎ (((x : ℕ) × (c ≡ If x p)) ⊎ (c ≡ Do p))))
+
+  -- and that part ends where the whole does
+  pub record LastPart (p : ℕ) (u : Stmt) : Type 0 where
+    pub part : Stmt
+    pub stands : StmtAt f p part
+    pub behind : at < p
+    pub ends : p + stmt_size part ≡ at + stmt_size u
+
+  pub last_part : (u : Stmt) {c : StatementCommand} {p : ℕ} → IsLast c p → Some c ≡ statement_command (drop at f) → StmtAt f at u → LastPart p u
+  last_part u (inl e) h s =
+      let n = stmt_here u e h s in
+      record { part = n.1; stands = n.5; behind = omega (arith, n.3); ends = omega (arith, n.3, ap stmt_size n.2) }
+  last_part u (inr (inl e)) h s =
+      let n = stmt_here u e h s in
+      record { part = n.1; stands = n.5; behind = omega (arith, n.3); ends = omega (arith, n.3, ap stmt_size n.2) }
+  last_part u (inr (inr (inl e))) h s =
+      let n = stmt_here u e h s in
+      record { part = n.1; stands = n.5; behind = omega (arith, n.3); ends = omega (arith, n.3, ap stmt_size n.2) }
+  last_part u (inr (inr (inr (inl e)))) h s =
+      let n = stmt_here u e.1 h s in
+      record { part = n.2; stands = n.8; behind = omega (arith, n.4, n.5); ends = omega (arith, n.4, n.5, ap stmt_size n.3) }
+  last_part u (inr (inr (inr (inr e)))) h s =
+      let n = stmt_here u e h s in
+      record { part = n.1; stands = n.5; behind = omega (arith, n.3); ends = omega (arith, n.3, ap stmt_size n.2) }
 
   behaviour_some : (u : Behaviour) → BehaviourAt f at u → (c : BehaviourCommand) × (behaviour_command (drop at f) ≡ Some c)
   behaviour_some (process c) s = (Proc c, s)

@@ -1,5 +1,5 @@
 -- The front of a number of each statement, from what the code finds at its place.
-use Rattle.std.proofs.Common.{◌≡◌, ℕ, zero, suc, ◌+◌, ◌-◌, ◌<◌, ◌≤◌, true, false, List, [], ◌∷◌, map, length, take, replicate, None, Option, sym, refl, ap, ◌∙◌, subst, arith}
+use Rattle.std.proofs.Common.{◌≡◌, ℕ, suc, ◌+◌, ◌-◌, ◌<◌, ◌≤◌, true, false, List, [], ◌∷◌, map, length, take, replicate, None, Option, sym, refl, ap, ◌∙◌, subst, arith}
 use Rattle.std.proofs.lemmas.List.{take_at}
 use Rattle.commands.specs.Bytes.{padded}
 use Rattle.values.specs.declared.row.Row.{Row}
@@ -12,14 +12,12 @@ use Rattle.commands.specs.Trees.{Expr, Stmt, skip, assign, send, receive, sequen
 use Rattle.admission.specs.Conditions.{most_fronts}
 use Rattle.processes.specs.declared.front.Action.TheVariants.{Internal, Store, Send, Receive}
 use Rattle.processes.specs.declared.front.Front.{Front as FrontC}
-use Rattle.processes.specs.declared.front.Sent.{Sent}
-use Rattle.processes.specs.declared.front.Targets.{Targets}
+use Rattle.values.specs.declared.few.Few.{Few}
 use Rattle.processes.specs.declared.left.Left.{Left}
 use Rattle.processes.specs.Evaluation.{eval}
 use Rattle.processes.specs.Found.{Answers, StmtsAt, front_numbered, one_front, two_fronts, values_in, variables_in, Ready, Standing}
 use Rattle.processes.specs.Fronts.{internal, store, sends, receives, front, is_true, fronts}
-use Rattle.processes.specs.Places.{backwards, places_of}
-use Rattle.processes.proofs.Kept.{class_laws}
+use Rattle.processes.specs.Places.{places_of}
 use Rattle.processes.proofs.Numbered.{numbered}
 use Rattle.processes.proofs.Numbers.{in_first, in_second, one_found, two_found}
 
@@ -27,29 +25,14 @@ use Rattle.processes.proofs.Numbers.{in_first, in_second, one_found, two_found}
 pub received : (n : ℕ) (list ws : List ℕ) → n ≡ length ws → list ≡ padded ws → take n list ≡ ws
 received n list ws p q = rw (p, q) (take_at ws (replicate (4 - length ws) 255) (length ws) refl)
 
--- how many statements are left
-places_long : (n : ℕ) (ps : List ℕ) → length (backwards n ps) ≡ n
-places_long zero ps = refl
-places_long (suc n) ps = ap suc (places_long n ps)
-
-pub one_longer : (l m : Left) (p : ℕ) → places_of m ≡ p ∷ places_of l → m.count ≡ l.count + 1
-one_longer l m p e =
-    let a = places_long l.count l.places in
-    let b = places_long m.count m.places in
-    let d : length (places_of m) ≡ suc (length (places_of l)) = ap length e in
-    omega (arith, a, b, d)
-
 module _ (f : List ℕ) where
-  counted : (n : ℕ) (ps : List ℕ) (ss : List Stmt) → StmtsAt f (backwards n ps) ss → n ≡ length ss
-  counted zero ps [] h = refl
-  counted zero ps (s ∷ ss) h = absurd h
-  counted (suc n) ps [] h = absurd h
-  counted (suc n) ps (s ∷ ss) h = ap suc (counted n ps ss h.1)
+  pub counted : (ps : List ℕ) (ss : List Stmt) → StmtsAt f ps ss → length ps ≡ length ss
+  counted [] [] h = refl
+  counted [] (s ∷ ss) h = absurd h
+  counted (p ∷ ps) [] h = absurd h
+  counted (p ∷ ps) (s ∷ ss) h = ap suc (counted ps ss h.1)
 
   -- what remains of a process, by its first statement
-  pub standing_short : (left : Left) (ks : List Kind) (ds : List Declaration) (ss : List Stmt) → Standing f left ks ds ss → left.count ≤ 32
-  standing_short left ks ds ss h = omega (arith, counted left.count left.places ss h.places, class_laws.few_left ss h.room)
-
   pub standing_ready : (left : Left) (ks : List Kind) (ds : List Declaration) (at : ℕ) (rest : Left) (ss : List Stmt) → Standing f left ks ds ss → at ∷ places_of rest ≡ places_of left → (s : Stmt) × (after : List Stmt) × (ss ≡ s ∷ after) × Ready f at rest s after
   standing_ready left ks ds at rest [] h e = absurd (subst (λ ps. StmtsAt f ps []) (sym e) h.places)
   standing_ready left ks ds at rest (s ∷ after) h e =
@@ -58,8 +41,8 @@ module _ (f : List ℕ) where
 
   module _ (at : ℕ) (rest : Left) (ss : List Stmt) where
     -- two more places are free where a statement has parts
-    pub has_room : (s : Stmt) → Ready f at rest s ss → 2 ≤ stmt_depth s → rest.count + 2 ≤ 32
-    has_room s h d = omega (arith, counted rest.count rest.places ss h.behind, h.room.0, d)
+    pub has_room : (s : Stmt) → Ready f at rest s ss → 2 ≤ stmt_depth s → length (places_of rest) + 2 ≤ 32
+    has_room s h d = omega (arith, counted (places_of rest) ss h.behind, h.room.0, d)
 
     pub before : (m : ℕ) (next : Left) (s : Stmt) → places_of next ≡ m ∷ places_of rest → StmtAt f m s → StmtsAt f (places_of rest) ss → StmtsAt f (places_of next) (s ∷ ss)
     before m next s e h b = subst (λ ps. StmtsAt f ps (s ∷ ss)) (sym e) (h, b)
@@ -110,10 +93,10 @@ module _ (f : List ℕ) where
       pub set_found : (v : ℕ) (row : Row) (x : Expr) → r ≡ one_front n (Store v row) rest → s ≡ assign v x → value_of_row row ≡ eval x vs → Ready f at rest s ss → FoundAt
       set_found v row x e p q h = rw (e, p) (one_found f k n (Store v row) rest (front k (store v (eval x vs)) ss) refl (record { does = ap (λ w. store v w) q; leaves = h.behind }))
 
-      pub send_found : (c m : ℕ) (sent : Sent) (es : List Expr) → r ≡ one_front n (Send c m sent) rest → s ≡ send c m es → values_in sent ≡ map (λ e. eval e vs) es → Ready f at rest s ss → FoundAt
+      pub send_found : (c m : ℕ) (sent : Few Row 4) (es : List Expr) → r ≡ one_front n (Send c m sent) rest → s ≡ send c m es → values_in sent ≡ map (λ e. eval e vs) es → Ready f at rest s ss → FoundAt
       send_found c m sent es e p q h = rw (e, p) (one_found f k n (Send c m sent) rest (front k (sends c m (map (λ e. eval e vs) es)) ss) refl (record { does = ap (λ w. sends c m w) q; leaves = h.behind }))
 
-      pub receive_found : (c m : ℕ) (targets : Targets) (ws : List ℕ) → r ≡ one_front n (Receive c m targets) rest → s ≡ receive c m ws → variables_in targets ≡ ws → Ready f at rest s ss → FoundAt
+      pub receive_found : (c m : ℕ) (targets : Few ℕ 4) (ws : List ℕ) → r ≡ one_front n (Receive c m targets) rest → s ≡ receive c m ws → variables_in targets ≡ ws → Ready f at rest s ss → FoundAt
       receive_found c m targets ws e p q h = rw (e, p) (one_found f k n (Receive c m targets) rest (front k (receives c m ws) ss) refl (record { does = ap (λ w. receives c m w) q; leaves = h.behind }))
 
       pub sequence_found : (a b : Stmt) → s ≡ sequence a b → Answers f r (front_numbered (k + n) (fronts vs k a (b ∷ ss))) → FoundAt

@@ -1,7 +1,10 @@
 -- How a front in the code stands for a front of trees.
-use Rattle.std.specs.Prelude.{◌≡◌, ℕ, ◌≤◌, cond, not, List, [], ◌∷◌, map, length, take, Some, None, Option, ◌==◌}
+use Rattle.std.specs.Prelude.{◌≡◌, ℕ, ◌≤◌, cond, not, List, [], ◌∷◌, map, length, Some, None, Option, ◌==◌}
 use Rattle.std.specs.List.{AllByRecursion}
+use Rattle.values.specs.declared.few.Few.{Few}
 use Rattle.values.specs.declared.kind.Kind.{Kind}
+use Rattle.values.specs.declared.row.Row.{Row}
+use Rattle.values.specs.Few.{listed}
 use Rattle.values.specs.Rows.{value_of_row}
 use Rattle.values.specs.Values.{Val}
 use Rattle.commands.specs.Stands.{StmtAt}
@@ -10,18 +13,16 @@ use Rattle.admission.specs.Conditions.{StmtKept, ClassKept}
 use Rattle.processes.specs.declared.front.Action.{Action as ActionC}
 use Rattle.processes.specs.declared.front.Action.TheVariants.{Internal, Store, Send, Receive}
 use Rattle.processes.specs.declared.front.Front.{Front as FrontC}
-use Rattle.processes.specs.declared.front.Sent.{Sent}
-use Rattle.processes.specs.declared.front.Targets.{Targets}
 use Rattle.processes.specs.declared.left.Left.{Left}
 use Rattle.processes.specs.Classes.{HasRoom, ProcessOf}
 use Rattle.processes.specs.Fronts.{Action, internal, store, sends, receives, Front, is_true, is_false}
 use Rattle.processes.specs.Places.{places_of}
 
-abbrev pub values_in : Sent → List Val
-values_in s = map value_of_row (take s.count s.rows)
+abbrev pub values_in : Few Row 4 → List Val
+values_in s = map value_of_row (listed s)
 
-abbrev pub variables_in : Targets → List ℕ
-variables_in t = take t.count t.variables
+abbrev pub variables_in : Few ℕ 4 → List ℕ
+variables_in t = listed t
 
 abbrev pub action_of : ActionC → Action
 action_of Internal = internal

@@ -5,7 +5,8 @@ ghost use Rattle.commands.specs.Stands.{ExprAt};
 ghost use Rattle.commands.specs.Trees.{Expr};
 ghost use Rattle.processes.specs.Evaluation.{eval, leaf_value, values_of};
 
-use commands::expression::{ExpressionCommand, Leaf, read_expression};
+use commands::command::read;
+use commands::expression::{ExpressionCommand, Leaf};
 use values::row::Row;
 use values::value::{Boolean, Integer, Value};
 
@@ -13,11 +14,9 @@ use values::value::{Boolean, Integer, Value};
 fn variable_value(variable: u8, variables: &[Row]) -> Value
     ensures { meaning result ≡ leaf_value (values_of variables.now) (Leaf.Var variable) }
 {
-    let i = variable as usize;
-    if i < variables.len() {
-        variables[i].value()
-    } else {
-        Value::Integer(Integer::unknown())
+    match variables.get(variable as usize) {
+        Some(row) => row.value(),
+        None => Value::Integer(Integer::unknown()),
     }
 }
 
@@ -34,18 +33,20 @@ fn leaf_value(leaf: Leaf, variables: &[Row]) -> Value
     }
 }
 
+// On the value; a sheet keeps rows, and has its own.
 fn negated(value: Value) -> Value
     ensures { meaning result ≡ boolean (negate (as_truth (meaning value))) }
 {
     Value::Boolean(value.boolean().not())
 }
 
-// The value of the expression at `at`.
+// The value of the expression at `at`. File and variables stay two parameters: behind a struct of both every
+// clause would name its state at the call, and the bodies would lose one argument.
 pub fn evaluate(file: &[u8], at: usize, variables: &[Row]) -> Value
     requires { (e : Expr) × ExprAt file.now at e }
     ensures { (e : Expr) → ExprAt file.now at e → meaning result ≡ eval e (values_of variables.now) }
 {
-    let Some(command) = read_expression(file, at) else {
+    let Some(command) = read::<ExpressionCommand>(file, at) else {
         return unreachable();
     };
     match command {

@@ -9,9 +9,11 @@ ghost use Rattle.processes.specs.Found.{one_front, two_fronts, front_numbered, A
 
 use crate::counting::most_fronts;
 use crate::evaluation::evaluate;
-use crate::front::{Action, Front, Targets, sent_values};
+use crate::front::{Action, Front, sent_values};
 use crate::left::Left;
-use commands::statement::{StatementCommand, read_statement};
+use commands::command::read;
+use commands::statement::StatementCommand;
+use values::few::Few;
 use values::row::Row;
 use values::value::Value;
 
@@ -24,21 +26,14 @@ fn is_true(value: Value) -> bool
 fn is_false(value: Value) -> bool
     ensures { result ≡ is_false (meaning value) }
 {
-    match value.boolean().get() {
-        Some(truth) => !truth,
-        None => false,
-    }
+    value.boolean().get().is_some_and(|truth| !truth)
 }
 
 // The only front of a command.
 fn one_front(number: u8, action: Action, leaves: Left) -> Option<Front>
     ensures { result ≡ one_front number action leaves }
 {
-    if number == 0 {
-        Some(Front { action, leaves })
-    } else {
-        None
-    }
+    (number == 0).then_some(Front { action, leaves })
 }
 
 // The two ways of a condition: front 0 unless it is false, front 1 unless it is true.
@@ -59,17 +54,19 @@ fn two_fronts(condition: Value, number: u8, yes: Left, no: Left) -> Option<Front
 }
 
 // The front of a number of the statement at `at`, before the rest of its process.
+// File and place stay parameters: a struct of both could not hold that a statement stands there, since a ghost field is a
+// fact with one proof at most.
 fn front_at(file: &[u8], at: usize, rest: Left, variables: &[Row], number: u8) -> Option<Front>
     requires { (s : Stmt) × (ss : List Stmt) × Ready file.now at rest s ss }
     ensures { (s : Stmt) (ss : List Stmt) (k : ℕ) → Ready file.now at rest s ss → Answers file.now result (front_numbered (k + number) (fronts (values_of variables.now) k s ss)) }
 {
-    let Some(command) = read_statement(file, at) else {
+    let Some(command) = read::<StatementCommand>(file, at) else {
         return unreachable();
     };
     match command {
         StatementCommand::Skip => one_front(number, Action::Internal, rest),
         StatementCommand::Set(variable) => {
-            let row = Row::of(evaluate(file, at + 2, variables));
+            let row = Row::from(evaluate(file, at + 2, variables));
             one_front(number, Action::Store(variable, row), rest)
         }
         StatementCommand::Send(channel, message, count) => {
@@ -77,10 +74,7 @@ fn front_at(file: &[u8], at: usize, rest: Left, variables: &[Row], number: u8) -
             one_front(number, Action::Send(channel, message, sent), rest)
         }
         StatementCommand::Recv(channel, message, count, list) => {
-            let targets = Targets {
-                count,
-                variables: list,
-            };
+            let targets = Few::first(list, count as usize);
             one_front(number, Action::Receive(channel, message, targets), rest)
         }
         StatementCommand::Seq(second) => {
@@ -126,8 +120,6 @@ pub fn front_of_places(file: &[u8], left: Left, variables: &[Row], number: u8) -
     requires { (ks : List Kind) × (ds : List Declaration) × (ss : List Stmt) × Standing file.now left ks ds ss }
     ensures { (ks : List Kind) (ds : List Declaration) (ss : List Stmt) → Standing file.now left ks ds ss → Answers file.now result (front_numbered number (process_fronts (values_of variables.now) ss)) }
 {
-    match left.split() {
-        Some((at, rest)) => front_at(file, at as usize, rest, variables, number),
-        None => None,
-    }
+    let (at, rest) = left.split()?;
+    front_at(file, at as usize, rest, variables, number)
 }

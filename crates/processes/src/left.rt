@@ -1,13 +1,12 @@
 // What remains of a process: the places of its statements, the first of them stored last.
-ghost use Rattle.std.specs.Prelude.{◌≡◌, ◌<◌, ◌≤◌, [], ◌∷◌};
+ghost use Rattle.std.specs.Prelude.{◌≡◌, ◌<◌, [], ◌∷◌, length};
 ghost use Rattle.processes.specs.Places.{places_of, split_places};
 
-pub const ROOM: u8 = 32;
+use values::few::Few;
 
 #[derive(Clone, Copy)]
 pub struct Left {
-    count: u8,
-    places: [u16; 32],
+    places: Few<u16, 32>,
 }
 
 impl Left {
@@ -15,37 +14,26 @@ impl Left {
         ensures { places_of result ≡ [] }
     {
         Left {
-            count: 0,
-            places: [0; 32],
+            places: Few::new(0),
         }
     }
 
     // The same with a statement before it.
     pub fn with(self, place: u16) -> Left
-        requires { self.count < 32 }
+        requires { length (places_of self) < 32 }
         ensures { places_of result ≡ place ∷ places_of self }
     {
         let mut places = self.places;
-        places[self.count as usize] = place;
-        Left {
-            count: self.count + 1,
-            places,
-        }
+        places.push(place);
+        Left { places }
     }
 
     // The first statement, and those behind it; none at the end.
     pub fn split(self) -> Option<(u16, Left)>
-        requires { self.count ≤ 32 }
         ensures { split_places result ≡ places_of self }
     {
-        if self.count == 0 {
-            return None;
-        }
-        let count = self.count - 1;
-        let rest = Left {
-            count,
-            places: self.places,
-        };
-        Some((self.places[count as usize], rest))
+        let mut places = self.places;
+        let first = places.pop()?;
+        Some((first, Left { places }))
     }
 }

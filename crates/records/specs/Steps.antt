@@ -4,6 +4,9 @@ use Rattle.records.specs.declared.step.Step.{Step}
 
 -- a field that does not apply holds 255
 
+abbrev pub alone : ℕ → ℕ → ℕ → ℕ → ℕ → Step
+alone k p f c m = record { kind = k; process = p; front = f; partner = 255; partner_front = 255; channel = c; message = m }
+
 abbrev pub internal : ℕ → ℕ → Step
 internal p f = record { kind = 0; process = p; front = f; partner = 255; partner_front = 255; channel = 255; message = 255 }
 

@@ -1,17 +1,12 @@
 // What a journal holds of a step that was taken: the step and the values that it exchanged.
-ghost use Rattle.std.specs.Prelude.{◌≡◌, slice_index_or};
-ghost use Rattle.records.specs.Records.{unknown_row, record_of};
+ghost use Rattle.std.specs.Prelude.{◌≡◌};
+ghost use Rattle.records.specs.Records.{record_of};
 
 use crate::step::Step;
 use values::row::Row;
+pub use values::row::UNKNOWN;
 
-// The row of the unknown Integer.
-pub const UNKNOWN: Row = Row {
-    kind: 1,
-    known: 0,
-    number: 0,
-};
-
+// Always four values with their count, so that a record has one size in lent memory.
 #[derive(Clone, Copy, Debug)]
 pub struct Record {
     pub step: Step,
@@ -27,22 +22,11 @@ impl Record {
         if given.len() > 4 {
             return None;
         }
+        let row = |i: usize| given.get(i).copied().unwrap_or(UNKNOWN);
         Some(Record {
             step,
             count: given.len() as u8,
-            values: [
-                row_at(given, 0),
-                row_at(given, 1),
-                row_at(given, 2),
-                row_at(given, 3),
-            ],
+            values: [row(0), row(1), row(2), row(3)],
         })
     }
-}
-
-// The row with number `i`, or the unknown Integer's where there is none.
-fn row_at(given: &[Row], i: usize) -> Row
-    ensures { result ≡ slice_index_or given.now i unknown_row }
-{
-    if i < given.len() { given[i] } else { UNKNOWN }
 }

@@ -1,10 +1,10 @@
 // What a step is: who does it with whom, by which fronts, over which channel.
 ghost use Rattle.std.specs.Prelude.{◌≡◌, Some};
-ghost use Rattle.records.specs.Steps.{closed, has, internal_of, internal, meeting, outside_send, outside_receive, step_text};
+ghost use Rattle.records.specs.Steps.{alone, closed, has, internal_of, internal, meeting, outside_send, outside_receive, step_text};
 
 use std::fmt;
 
-// The kinds of steps. The first two are closed: they need nothing from outside.
+// The kinds of steps: plain numbers, since a record lies in lent memory, and any seven bytes may be asked about. The first two are closed: they need nothing from outside.
 pub const INTERNAL: u8 = 0;
 
 pub const MEETING: u8 = 1;
@@ -28,18 +28,25 @@ pub struct Step {
 }
 
 impl Step {
-    pub fn internal(process: u8, front: u8) -> Step
-        ensures { result ≡ internal process front }
+    // A step of one process, without a partner.
+    fn alone(kind: u8, process: u8, front: u8, channel: u8, message: u8) -> Step
+        ensures { result ≡ alone kind process front channel message }
     {
         Step {
-            kind: INTERNAL,
+            kind,
             process,
             front,
             partner: NOTHING,
             partner_front: NOTHING,
-            channel: NOTHING,
-            message: NOTHING,
+            channel,
+            message,
         }
+    }
+
+    pub fn internal(process: u8, front: u8) -> Step
+        ensures { result ≡ internal process front }
+    {
+        Step::alone(INTERNAL, process, front, NOTHING, NOTHING)
     }
 
     // The process sends, and the partner receives.
@@ -67,29 +74,13 @@ impl Step {
     pub fn outside_send(process: u8, front: u8, channel: u8, message: u8) -> Step
         ensures { result ≡ outside_send process front channel message }
     {
-        Step {
-            kind: OUTSIDE_SEND,
-            process,
-            front,
-            partner: NOTHING,
-            partner_front: NOTHING,
-            channel,
-            message,
-        }
+        Step::alone(OUTSIDE_SEND, process, front, channel, message)
     }
 
     pub fn outside_receive(process: u8, front: u8, channel: u8, message: u8) -> Step
         ensures { result ≡ outside_receive process front channel message }
     {
-        Step {
-            kind: OUTSIDE_RECEIVE,
-            process,
-            front,
-            partner: NOTHING,
-            partner_front: NOTHING,
-            channel,
-            message,
-        }
+        Step::alone(OUTSIDE_RECEIVE, process, front, channel, message)
     }
 
     // Whether it needs nothing from outside.

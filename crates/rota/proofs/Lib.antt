@@ -1,5 +1,4 @@
-pub mod Closed
+pub mod Arrays
 pub mod Lines
 pub mod Names
-pub mod Numerals
 pub mod Scripts

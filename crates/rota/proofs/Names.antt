@@ -2,7 +2,6 @@
 use Rattle.std.proofs.Common.{◌≡◌, ℕ, zero, suc, ◌<◌, true, false, List, [], ◌∷◌, length, get_or, drop, vec_items, codes, sym, refl, ap, ◌∙◌, subst, arith, Bor}
 use Rattle.std.proofs.lemmas.List.{get_or-map, length-map}
 use Rattle.std.proofs.lemmas.Bool.{both_ways}
-use Rattle.std.proofs.lemmas.Slice.Eq.{bytes_eq-Decides}
 use Rattle.std.specs.Str.{bytes_eq}
 use Rattle.rota.specs.declared.choice.Fair.{Fair}
 use Rattle.rota.specs.declared.choice.Fair.TheVariants.{Rotation, Seniority}
@@ -13,13 +12,6 @@ use Rattle.rota.specs.Words.{Number, NoNumber, texts}
 
 differ : (a b : List ℕ) → bytes_eq a a ≡ true → bytes_eq a b ≡ false → a ≡ b → ⊥
 differ a b t f e = both_ways _ f (ap (bytes_eq a) (sym e) ∙ t)
-
--- what a test of two words tells
-pub same_word : (a b : List ℕ) → true ≡ bytes_eq a b → a ≡ b
-same_word a b e = (bytes_eq-Decides a b).0 (sym e)
-
-pub other_word : (a b : List ℕ) → false ≡ bytes_eq a b → a ≡ b → ⊥
-other_word a b e p = both_ways _ (sym e) ((bytes_eq-Decides a b).1 p)
 
 script_fair : (f : Fair) → codes "script" ≡ fair_name f → ⊥
 script_fair Rotation = differ _ _ refl refl
@@ -42,26 +34,3 @@ no_script x ws i l none (Script ns) (rest, e, h) =
     none at.0 (subst (λ z. Number 65535 z at.0) (get_or-map (λ x. x.now) ws i x [] l) at.1)
 no_script x ws i l none (Plain f) e = script_fair f (head e)
 no_script x ws i l none (Hold k f) (w, e, _) = differ (codes "script") (codes "hold") refl refl (head e)
-
--- hold with a word that is no number
-module _ (k b : List ℕ) where
-  others : ((k' : ℕ) (f : Fair) → Chooses (codes "hold" ∷ k ∷ b ∷ []) (Hold k' f) → ⊥) → (c : Choice) → Chooses (codes "hold" ∷ k ∷ b ∷ []) c → ⊥
-  others none (Script ns) (rest, e, _) = differ (codes "hold") (codes "script") refl refl (head e)
-  others none (Plain f) e = let n = ap length e in omega arith
-  others none (Hold k' f) h = none k' f h
-
-  pub no_number : NoNumber 255 k → (c : Choice) → Chooses (codes "hold" ∷ k ∷ b ∷ []) c → ⊥
-  no_number none = others (λ k' f (w, e, n). none k' (subst (λ z. Number 255 z k') (sym (ap (λ xs. get_or xs 1 []) e)) n))
-
--- no word, and words whose first is neither `script` nor `hold`, or whose count is wrong
-
-pub no_words : (ws : List (Bor (List ℕ))) → length ws ≡ 0 → (c : Choice) → Chooses (texts ws) c → ⊥
-no_words ws n (Script ns) (rest, e, _) = let m = simp length-map at (ap length e) in omega arith
-no_words ws n (Plain f) e = let m = simp length-map at (ap length e) in omega arith
-no_words ws n (Hold k f) (w, e, _) = let m = simp length-map at (ap length e) in omega arith
-
-pub no_other : (x : Bor (List ℕ)) (ws : List (Bor (List ℕ))) → ((get_or ws 0 x).now ≡ codes "script" → ⊥) → (length ws ≡ 1 → ⊥) → (length ws ≡ 3 → (get_or ws 0 x).now ≡ codes "hold" → ⊥) → (c : Choice) → Chooses (texts ws) c → ⊥
-no_other x [] s p h c e = no_words [] refl c e
-no_other x (a ∷ ws) s p h (Script ns) (rest, e, _) = s (head e)
-no_other x (a ∷ ws) s p h (Plain f) e = p (sym (length-map (a ∷ ws) (λ x. x.now)) ∙ ap length e)
-no_other x (a ∷ ws) s p h (Hold k f) (w, e, _) = h (sym (length-map (a ∷ ws) (λ x. x.now)) ∙ ap length e) (head e)

@@ -1,7 +1,6 @@
 -- Numbers read one after another.
-use Rattle.std.proofs.Common.{◌≡◌, ℕ, ◌+◌, ◌<◌, ◌≤◌, true, false, cond, List, [], ◌∷◌, ◌++◌, length, get_or, take, is_ok, is_err, Ok, Err, Result, sym, refl, ap, ◌∙◌, subst, subst₂, Bor}
+use Rattle.std.proofs.Common.{◌≡◌, ℕ, ◌+◌, ◌<◌, ◌≤◌, List, [], ◌∷◌, ◌++◌, length, get_or, take, sym, ap, ◌∙◌, subst, subst₂, Bor}
 use Rattle.std.proofs.lemmas.List.{map-append, take_more, take_all}
-use Rattle.std.proofs.lemmas.Bool.{both_ways}
 use Rattle.rota.specs.Choices.{Numbers}
 use Rattle.rota.specs.Words.{Number, texts}
 
@@ -10,11 +9,6 @@ one_more [] [] w n _ h = (h, tt)
 one_more (x ∷ ws) (y ∷ ns) w n (here, rest) h = (here, one_more ws ns w n rest h)
 one_more [] (y ∷ ns) w n none h = absurd none
 one_more (x ∷ ws) [] w n none h = absurd none
-
--- what a push that did not fail leaves
-pub pushed : {X Y : Type 0} (r : Result X Y) (ns ns' : List ℕ) (n : ℕ) → false ≡ is_err r → ns' ≡ cond (is_ok r) (ns ++ n ∷ []) ns → ns' ≡ ns ++ n ∷ []
-pushed (Ok x) ns ns' n e h = h
-pushed (Err y) ns ns' n e h = absurd (both_ways true (sym e) refl)
 
 module _ (ws : List (Bor (List ℕ))) (i : ℕ) (ns : List ℕ) (before : Numbers (texts (take i ws)) ns) where
   pub numbers_more : (d : Bor (List ℕ)) (n : ℕ) (ns' : List ℕ) → i < length ws → Number 65535 (get_or ws i d).now n → ns' ≡ ns ++ n ∷ [] → Numbers (texts (take (i + 1) ws)) ns'

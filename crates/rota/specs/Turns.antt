@@ -6,9 +6,7 @@ use Rattle.choosers.specs.Meanings.{Question, when_empty}
 use Rattle.choosers.specs.Fairness.{some_has}
 use Rattle.rota.specs.declared.turns.Turn.{Turn}
 use Rattle.rota.specs.declared.turns.Waiting.{Waiting}
-use Rattle.rota.specs.declared.turns.Outcome.{Outcome}
-use Rattle.rota.specs.declared.turns.Picked.{Picked as PickedRow}
-use Rattle.rota.specs.declared.turns.Outcome.TheVariants.{Picked, Declined}
+use Rattle.rota.specs.declared.turns.Picked.{Picked}
 
 -- one more, as far as a count of the code goes
 abbrev pub one_more : ℕ → ℕ
@@ -40,9 +38,9 @@ waiting_next o w q = when_empty q w (waiting_by o w q)
 abbrev pub turns_after : ℕ → Question → ℕ
 turns_after t q = when_empty q t (one_more t)
 
-abbrev pub outcome_of : Option ℕ → Waiting → Question → Outcome
-outcome_of (Some n) w q = Picked (record { number = n; step = slice_index_or q n no_step; waiting = waiting_after q (slice_index_or q n no_step) w })
-outcome_of None w q = Declined
+abbrev pub outcome_of : Option ℕ → Waiting → Question → Option Picked
+outcome_of (Some n) w q = Some (record { number = n; step = slice_index_or q n no_step; waiting = waiting_after q (slice_index_or q n no_step) w })
+outcome_of None w q = None
 
 abbrev pub turn_of : Option ℕ → ℕ → Waiting → Question → Option Turn
 turn_of o t w q = when_empty q None (Some (record { turn = one_more t; outcome = outcome_of o w q }))
@@ -54,12 +52,12 @@ waiting_text w =
     let at : ℕ → ℕ = λ p. slice_index w.turns p in
     spaced (at 0) (spaced (at 1) (spaced (at 2) (spaced (at 3) (spaced (at 4) (spaced (at 5) (spaced (at 6) (decimal (at 7))))))))
 
-abbrev pub picked_text : PickedRow → List ℕ
+abbrev pub picked_text : Picked → List ℕ
 picked_text p = codes "pick " ++ (decimal p.number ++ (codes ": " ++ (step_text p.step ++ (codes "; waiting " ++ waiting_text p.waiting))))
 
-abbrev pub outcome_text : Outcome → List ℕ
-outcome_text (Picked p) = picked_text p
-outcome_text Declined = codes "declined"
+abbrev pub outcome_text : Option Picked → List ℕ
+outcome_text (Some p) = picked_text p
+outcome_text None = codes "declined"
 
 abbrev pub turn_text : Turn → List ℕ
 turn_text t = codes "turn " ++ (decimal t.turn ++ (codes " " ++ outcome_text t.outcome))

@@ -1,12 +1,14 @@
 // Which chooser a rota follows, read from words.
-ghost use Rattle.std.specs.Prelude.{◌≡◌, [], ◌∷◌, Some, codes, MatchOption, MatchResult, ◌≢◌};
+ghost use Rattle.std.specs.Prelude.{◌≡◌, ◌∷◌, Some, codes, MatchResult, ◌≢◌};
 ghost use Rattle.rota.specs.Choices.{choice_fault_text, fair_name, Chooses, Refused};
 ghost use Rattle.rota.specs.Words.{texts};
 ghost use Rattle.rota.specs.declared.choice.Fair.{Fair as FairName};
+ghost use Rattle.rota.specs.declared.choice.ChoiceFault.TheVariants.{NoMemory, NoSuchChooser};
 
-use crate::words::number;
-use std::alloc::Global;
+use crate::words::{byte, number};
+use std::alloc::{AllocFailed, Global};
 use std::fmt;
+use std::str::FromStr;
 
 // The fair choosers that stand by themselves, and that Hold can stand over.
 #[derive(Clone, Copy, PartialEq, Eq, Debug)]
@@ -30,13 +32,15 @@ pub enum ChoiceFault {
 }
 
 impl ChoiceFault {
+    // The text itself: to write it can fail, to have it can not.
     pub fn text(self) -> &'static str
         ensures { result.now ≡ choice_fault_text self }
     {
         match self {
             ChoiceFault::NoSuchChooser => "no such chooser",
-            ChoiceFault::NotANumber =>
-                "a script has numbers from 0 to 65535, and hold one from 0 to 255",
+            ChoiceFault::NotANumber => {
+                "a script has numbers from 0 to 65535, and hold one from 0 to 255"
+            }
             ChoiceFault::NoMemory => "no memory for the script",
         }
     }
@@ -50,14 +54,26 @@ impl fmt::Display for ChoiceFault {
     }
 }
 
+impl From<AllocFailed<u16>> for ChoiceFault {
+    ghost from_gives = { λ _ r. r ≡ NoMemory };
+
+    fn from(_error: AllocFailed<u16>) -> Self {
+        Self::NoMemory
+    }
+}
+
 // The fair chooser that a word names.
-fn fair_of(word: &str) -> Option<Fair>
-    ensures { MatchOption result ((f : FairName) → word.now ≢ fair_name f) (λ f. word.now ≡ fair_name f) }
-{
-    match word {
-        "rotation" => Some(Fair::Rotation),
-        "seniority" => Some(Fair::Seniority),
-        _ => None,
+impl FromStr for Fair {
+    type Err = ChoiceFault;
+
+    ghost from_str_gives = { λ word r. MatchResult r (λ f. word ≡ fair_name f) (λ e. (e ≡ NoSuchChooser) × ((f : FairName) → word ≢ fair_name f)) };
+
+    fn from_str(word: &str) -> Result<Fair, ChoiceFault> {
+        match word {
+            "rotation" => Ok(Fair::Rotation),
+            "seniority" => Ok(Fair::Seniority),
+            _ => Err(ChoiceFault::NoSuchChooser),
+        }
     }
 }
 
@@ -66,59 +82,27 @@ fn script_of(heap: Global, words: &[&str]) -> Result<Choice, ChoiceFault>
     ensures { MatchResult result (Chooses (codes "script" ∷ texts words.now)) (Refused (codes "script" ∷ texts words.now)) }
 {
     let mut numbers = Vec::new(heap);
+    // a word that is no number is one fault, and a list that does not grow another
     for word in words {
-        let Some(n) = number(word, 65535) else {
+        let Some(n) = number(word, u16::MAX) else {
             return Err(ChoiceFault::NotANumber);
         };
-        if numbers.push(n).is_err() {
-            return Err(ChoiceFault::NoMemory);
-        }
+        numbers.push(n)?;
     }
     Ok(Choice::Script(numbers))
-}
-
-// Hold, by its K and the chooser below.
-fn hold_of(k: &str, below: &str) -> Result<Choice, ChoiceFault>
-    ensures { MatchResult result (Chooses (codes "hold" ∷ k.now ∷ below.now ∷ [])) (Refused (codes "hold" ∷ k.now ∷ below.now ∷ [])) }
-{
-    let Some(k) = number(k, 255) else {
-        return Err(ChoiceFault::NotANumber);
-    };
-    match fair_of(below) {
-        Some(fair) => Ok(Choice::Hold(k as u8, fair)),
-        None => Err(ChoiceFault::NoSuchChooser),
-    }
-}
-
-// A chooser of one word other than `script`.
-fn plain_of(word: &str) -> Result<Choice, ChoiceFault>
-    requires { word.now ≢ codes "script" }
-    ensures { MatchResult result (Chooses (word.now ∷ [])) (Refused (word.now ∷ [])) }
-{
-    match fair_of(word) {
-        Some(fair) => Ok(Choice::Plain(fair)),
-        None => Err(ChoiceFault::NoSuchChooser),
-    }
 }
 
 // The chooser that the words name: `script N..`, `rotation`, `seniority`, or `hold K` over one of the last two.
 pub fn parse_chooser(heap: Global, words: &[&str]) -> Result<Choice, ChoiceFault>
     ensures { MatchResult result (Chooses (texts words.now)) (Refused (texts words.now)) }
 {
-    if words.len() == 0 {
-        return Err(ChoiceFault::NoSuchChooser);
+    match words {
+        ["script", numbers @ ..] => script_of(heap, numbers),
+        ["hold", k, below] => {
+            let k = byte(k, u8::MAX, ChoiceFault::NotANumber)?;
+            Ok(Choice::Hold(k, below.parse()?))
+        }
+        [word] => Ok(Choice::Plain(word.parse()?)),
+        _ => Err(ChoiceFault::NoSuchChooser),
     }
-    if words[0] == "script" {
-        return script_of(heap, &words[1..]);
-    }
-    if words.len() == 1 {
-        return plain_of(words[0]);
-    }
-    if words.len() != 3 {
-        return Err(ChoiceFault::NoSuchChooser);
-    }
-    if words[0] == "hold" {
-        return hold_of(words[1], words[2]);
-    }
-    Err(ChoiceFault::NoSuchChooser)
 }

@@ -1,13 +1,13 @@
 // A rota: a chooser takes its turns, and each process counts for how many turns running it was passed over.
 ghost use Rattle.std.specs.Prelude.{◌≡◌, [], Some};
-ghost use Rattle.choosers.specs.Fairness.{some_has};
+ghost use Rattle.std.specs.List.{list_any};
+ghost use Rattle.records.specs.Steps.{has};
 ghost use Rattle.choosers.specs.Meanings.{after, when_empty};
 ghost use Rattle.rota.specs.Turns.{turn_text, picked_text, waiting_text, no_waiting, passed_over, waiting_after, waiting_next, turn_of, turns_after};
 
-use choosers::answer::Answer;
 use choosers::chooser::Chooser;
 use records::step::Step;
-use std::fmt;
+use std::{array, fmt};
 
 #[derive(Drop)]
 pub struct Rota<C> {
@@ -16,17 +16,11 @@ pub struct Rota<C> {
     waiting: Waiting,
 }
 
-// What came of a turn; turns are counted from 1.
+// What came of a turn: a pick, or `None` where the chooser declined. Turns are counted from 1.
 #[derive(Clone, Copy)]
 pub struct Turn {
     pub turn: u64,
-    pub outcome: Outcome,
-}
-
-#[derive(Clone, Copy)]
-pub enum Outcome {
-    Picked(Picked),
-    Declined,
+    pub outcome: Option<Picked>,
 }
 
 // The number of the picked step, the step, and the waiting of each process.
@@ -63,46 +57,40 @@ impl<C: Chooser> Rota<C> {
         ensures waiting { self.new.waiting ≡ waiting_next (C.meaning self.old.chooser [] closed.now) self.old.waiting closed.now }
         ensures chooser { C.meaning self.new.chooser ≡ when_empty closed.now (C.meaning self.old.chooser) (after (C.meaning self.old.chooser) closed.now) }
     {
-        if closed.len() == 0 {
+        if closed.is_empty() {
             return None;
         }
         self.turns = self.turns.saturating_add(1);
         let turn = self.turns;
-        match self.chooser.choose(closed) {
-            Answer::Pick(number) => {
-                let step = closed[number];
-                let waiting = waiting_after(self.waiting, closed, step);
-                self.waiting = waiting;
-                Some(Turn {
-                    turn,
-                    outcome: Outcome::Picked(Picked {
-                        number,
-                        step,
-                        waiting,
-                    }),
-                })
-            }
-            Answer::Declined => Some(Turn {
+        let Some(number) = self.chooser.choose(closed) else {
+            return Some(Turn {
                 turn,
-                outcome: Outcome::Declined,
+                outcome: None,
+            });
+        };
+        let step = closed[number];
+        let waiting = self.waiting.after(closed, step);
+        self.waiting = waiting;
+        Some(Turn {
+            turn,
+            outcome: Some(Picked {
+                number,
+                step,
+                waiting,
             }),
-        }
+        })
     }
 }
 
 // Whether process `p` is in one of the steps.
 fn is_in_some(closed: &[Step], p: u8) -> bool
-    ensures { result ≡ some_has p closed.now }
+    ensures { result ≡ list_any (has p) closed.now }
 {
-    for s in closed {
-        if s.involves(p) {
-            return true;
-        }
-    }
-    false
+    closed.iter().any(|s| s.involves(p))
 }
 
 // The waiting of process `p`: one turn more where it is in some closed step and not in the picked one.
+#[tactic(auto, using(crate::proofs::Lines::some_has_any))]
 fn waited(before: u64, closed: &[Step], step: Step, p: u8) -> u64
     ensures { result ≡ passed_over closed.now step p before }
 {
@@ -113,20 +101,14 @@ fn waited(before: u64, closed: &[Step], step: Step, p: u8) -> u64
     }
 }
 
-fn waiting_after(before: Waiting, closed: &[Step], step: Step) -> Waiting
-    ensures { result ≡ waiting_after closed.now step before }
-{
-    let turns = [
-        waited(before.turns[0], closed, step, 0),
-        waited(before.turns[1], closed, step, 1),
-        waited(before.turns[2], closed, step, 2),
-        waited(before.turns[3], closed, step, 3),
-        waited(before.turns[4], closed, step, 4),
-        waited(before.turns[5], closed, step, 5),
-        waited(before.turns[6], closed, step, 6),
-        waited(before.turns[7], closed, step, 7),
-    ];
-    Waiting { turns }
+impl Waiting {
+    // The waiting once a step was picked of the closed ones.
+    fn after(self, closed: &[Step], step: Step) -> Waiting
+        ensures { result ≡ waiting_after closed.now step self }
+    {
+        let turns = array::from_fn(|p| waited(self.turns[p], closed, step, p as u8));
+        Waiting { turns }
+    }
 }
 
 impl fmt::Display for Waiting {
@@ -155,8 +137,8 @@ impl fmt::Display for Turn {
     fn fmt<W: fmt::Write>(&self, f: &mut fmt::Formatter<W>) -> fmt::Result {
         let turn = self.turn;
         match self.outcome {
-            Outcome::Picked(picked) => write!(f, "turn {turn} {picked}"),
-            Outcome::Declined => write!(f, "turn {turn} declined"),
+            Some(picked) => write!(f, "turn {turn} {picked}"),
+            None => write!(f, "turn {turn} declined"),
         }
     }
 }

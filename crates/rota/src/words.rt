@@ -3,7 +3,7 @@ ghost use Rattle.std.specs.Prelude.{◌≡◌, true, IfOk, Some, MatchOption, Ma
 ghost use Rattle.records.specs.declared.step.Step.{Step as StepRow};
 ghost use Rattle.records.specs.Steps.{closed};
 ghost use Rattle.choosers.specs.Fairness.{Numbered};
-ghost use Rattle.rota.specs.Words.{step_fault_text, Number, NoNumber, Written, StepWords, texts};
+ghost use Rattle.rota.specs.Words.{step_fault_text, Number, NoNumber, StepWords, texts};
 
 use records::step::{MEETING, Step};
 use std::fmt;
@@ -17,6 +17,7 @@ pub enum StepFault {
 }
 
 impl StepFault {
+    // The text itself: to write it can fail, to have it can not.
     pub fn text(self) -> &'static str
         ensures { result.now ≡ step_fault_text self }
     {
@@ -41,43 +42,50 @@ impl fmt::Display for StepFault {
 pub fn number(word: &str, top: u16) -> Option<u16>
     ensures { MatchOption result (NoNumber top word.now) (λ n. Number top word.now n) }
 {
-    if has_plus(word.as_bytes()) {
+    if has_plus(word) {
         return None;
     }
-    match word.parse::<u16>() {
-        Ok(n) => { if n <= top { Some(n) } else { None } }
-        Err(_) => None,
-    }
+    word.parse::<u16>().ok().filter(|n| *n <= top)
 }
 
-// The same of a number that fits a byte.
-fn byte(word: &str, top: u8, fault: StepFault) -> Result<u8, StepFault>
-    ensures { MatchResult result (λ n. Number top word.now n) (λ _. NoNumber top word.now) }
+// The same of a number that fits a byte, or else this fault.
+pub(crate) fn byte<E: Drop>(word: &str, top: u8, fault: E) -> Result<u8, E>
+    ensures { MatchResult result (λ n. Number top word.now n) (λ e. NoNumber top word.now × (e ≡ fault)) }
 {
-    match number(word, top as u16) {
-        Some(n) => Ok(n as u8),
-        None => Err(fault),
-    }
+    number(word, top as u16).map(|n| n as u8).ok_or(fault)
 }
 
 // Whether a plus stands first, which the library's reading would take.
-fn has_plus(bytes: &[u8]) -> bool
-    ensures { result ≡ (slice_index bytes.now 0 == 43) }
+fn has_plus(word: &str) -> bool
+    ensures { result ≡ (slice_index word.now 0 == 43) }
 {
-    bytes.len() > 0 && bytes[0] == b'+'
+    matches!(word.as_bytes(), [b'+', ..])
 }
 
-// A closed step, by a word for each of its fields.
-fn step_of(k: &str, p: &str, f: &str, q: &str, g: &str, c: &str, m: &str) -> Result<Step, StepFault>
-    ensures { MatchResult result (λ s. Written k.now p.now f.now q.now g.now c.now m.now s) (λ _. (s : StepRow) → Written k.now p.now f.now q.now g.now c.now m.now s → ⊥) }
+// A closed step, by its seven numbers.
+pub fn parse_step(words: &[&str]) -> Result<Step, StepFault>
+    ensures exact { MatchResult result (λ s. StepWords (texts words.now) s) (λ _. (s : StepRow) → StepWords (texts words.now) s → ⊥) }
+    ensures proper { IfOk result (λ s. (closed s ≡ true) × Numbered s) }
 {
-    let kind = byte(k, 1, StepFault::NotClosed)?;
-    let process = byte(p, 7, StepFault::NoProcess)?;
-    let front = byte(f, 255, StepFault::NotAByte)?;
-    let partner = byte(q, 255, StepFault::NotAByte)?;
-    let partner_front = byte(g, 255, StepFault::NotAByte)?;
-    let channel = byte(c, 255, StepFault::NotAByte)?;
-    let message = byte(m, 255, StepFault::NotAByte)?;
+    let [
+        kind,
+        process,
+        front,
+        partner,
+        partner_front,
+        channel,
+        message,
+    ] = words
+    else {
+        return Err(StepFault::NotSevenNumbers);
+    };
+    let kind = byte(kind, 1, StepFault::NotClosed)?;
+    let process = byte(process, 7, StepFault::NoProcess)?;
+    let front = byte(front, u8::MAX, StepFault::NotAByte)?;
+    let partner = byte(partner, u8::MAX, StepFault::NotAByte)?;
+    let partner_front = byte(partner_front, u8::MAX, StepFault::NotAByte)?;
+    let channel = byte(channel, u8::MAX, StepFault::NotAByte)?;
+    let message = byte(message, u8::MAX, StepFault::NotAByte)?;
     if kind == MEETING && partner > 7 {
         return Err(StepFault::NoProcess);
     }
@@ -90,17 +98,4 @@ fn step_of(k: &str, p: &str, f: &str, q: &str, g: &str, c: &str, m: &str) -> Res
         channel,
         message,
     })
-}
-
-// A closed step, by its seven numbers.
-pub fn parse_step(words: &[&str]) -> Result<Step, StepFault>
-    ensures exact { MatchResult result (λ s. StepWords (texts words.now) s) (λ _. (s : StepRow) → StepWords (texts words.now) s → ⊥) }
-    ensures proper { IfOk result (λ s. (closed s ≡ true) × Numbered s) }
-{
-    if words.len() != 7 {
-        return Err(StepFault::NotSevenNumbers);
-    }
-    step_of(
-        words[0], words[1], words[2], words[3], words[4], words[5], words[6],
-    )
 }

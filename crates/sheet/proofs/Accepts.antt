@@ -13,20 +13,19 @@ use Rattle.sheet.specs.declared.fault.Expected.{Expected}
 use Rattle.sheet.specs.declared.fault.Expected.TheVariants.{End as EndE}
 use Rattle.sheet.specs.declared.word.Term.{Term}
 use Rattle.sheet.specs.declared.word.Term.TheVariants.{Value, Not, Binary}
-use Rattle.sheet.specs.declared.word.Word.{Word}
-use Rattle.sheet.specs.declared.word.Word.TheVariants.{Known, Unknown, OutOfRange}
+use Rattle.values.specs.declared.value.TextFault.TheVariants.{NotAValue, OutOfRange}
 use Rattle.sheet.specs.Checks.{check, check_line, parts, known, ask, fault, no_more, Checked, End, ◌>>=◌, ◌>>◌}
 use Rattle.sheet.specs.Faults.{expected_of}
 use Rattle.sheet.specs.Trees.{Tree, leaf, negation, operation, written, worth, tree_kind, Kinded, depth, size, Stands, Expression, ReadsExpressions}
-use Rattle.sheet.specs.Words.{term_kind}
+use Rattle.sheet.specs.Words.{Word, term_kind}
 use Rattle.sheet.proofs.Nodes.{stands_value, stands_not, stands_binary}
 use Rattle.sheet.proofs.Steps.{check_step}
 
-known_ok : (o : Option Word) (k : Option Kind) (at : ℕ) (t : Term) → known o k at ≡ Ok t → o ≡ Some (Known t)
+known_ok : (o : Option Word) (k : Option Kind) (at : ℕ) (t : Term) → known o k at ≡ Ok t → o ≡ Some (Ok t)
 known_ok None k at t e = absurd (let z : ◌≡◌ {A = ℕ} 0 1 = cc in omega arith)
-known_ok (Some Unknown) k at t e = absurd (let z : ◌≡◌ {A = ℕ} 0 1 = cc in omega arith)
-known_ok (Some OutOfRange) k at t e = absurd (let z : ◌≡◌ {A = ℕ} 0 1 = cc in omega arith)
-known_ok (Some (Known u)) k at t e = cc
+known_ok (Some (Err NotAValue)) k at t e = absurd (let z : ◌≡◌ {A = ℕ} 0 1 = cc in omega arith)
+known_ok (Some (Err OutOfRange)) k at t e = absurd (let z : ◌≡◌ {A = ℕ} 0 1 = cc in omega arith)
+known_ok (Some (Ok u)) k at t e = cc
 
 bind_ok : {A B : Type 0} (x : Checked A) (g : A → Checked B) (v : B) → (x >>= g) ≡ Ok v → (a : A) × (x ≡ Ok a) × (g a ≡ Ok v)
 bind_ok (Ok a) g v h = (a, refl, h)
@@ -56,7 +55,7 @@ pub record Found (d : ℕ) (ws : List Word) (at : ℕ) (k : Option Kind) (e : En
   pub deep : depth t ≤ d
 
 module _ (d : ℕ) (ws : List Word) (below : (at : ℕ) (k : Option Kind) (e : End) → check d ws at k ≡ Ok e → (t : Tree) × Found d ws at k e t) (at : ℕ) (k : Option Kind) (e : End) where
-  from_parts : (t : Term) → slice_get ws at ≡ Some (Known t) → awaited k (term_kind t) ≡ true → parts (λ p j. check d ws p j) at t ≡ Ok e → (u : Tree) × Found (suc d) ws at k e u
+  from_parts : (t : Term) → slice_get ws at ≡ Some (Ok t) → awaited k (term_kind t) ≡ true → parts (λ p j. check d ws p j) at t ≡ Ok e → (u : Tree) × Found (suc d) ws at k e u
   from_parts (Value r) s a h =
       let p : ◌≡◌ {A = End} (at + 1, term_kind (Value r)) e = cc in
       let q : term_kind (Value r) ≡ e.1 = ap (λ x. x.1) p in
@@ -105,7 +104,7 @@ sound_part (suc d) ws at k e h =
     let q = ask_ok (awaited k (term_kind p.0)) at (expected_of k) _ e p.2 in
     from_parts d ws (λ at' k' e'. sound_part d ws at' k' e') at k e p.0 (known_ok (slice_get ws at) k at p.0 p.1) q.0 q.1
 
-known_at : (ws : List Word) (at : ℕ) (k : Option Kind) (t : Term) → slice_get ws at ≡ Some (Known t) → Ok t ≡ known (slice_get ws at) k at
+known_at : (ws : List Word) (at : ℕ) (k : Option Kind) (t : Term) → slice_get ws at ≡ Some (Ok t) → Ok t ≡ known (slice_get ws at) k at
 known_at ws at k t e = rw e
 
 pub complete_part : (t : Tree) (d : ℕ) (ws : List Word) (at : ℕ) (k : Option Kind) → Stands ws at t → Kinded t → awaited k (tree_kind t) ≡ true → depth t ≤ d → check d ws at k ≡ Ok (at + size t, tree_kind t)
@@ -137,20 +136,20 @@ drop_nth (y ∷ xs) (suc i) x rest e =
     (p.0, ap (λ m. drop m (y ∷ xs)) n ∙ p.1)
 
 abbrev words_of : Tree → List Word
-words_of t = map Known (written t)
+words_of t = map (λ x. Ok x) (written t)
 
-words_two : (op : Op) (a b : Tree) (rest : List Word) → words_of (operation op a b) ++ rest ≡ Known (Binary op) ∷ (words_of a ++ (words_of b ++ rest))
-words_two op a b rest = ap (λ l. Known (Binary op) ∷ (l ++ rest)) (map-append (λ x. Known x) (written a) (written b)) ∙ ap (λ l. Known (Binary op) ∷ l) (append_assoc (words_of a) (words_of b) rest)
+words_two : (op : Op) (a b : Tree) (rest : List Word) → words_of (operation op a b) ++ rest ≡ Ok (Binary op) ∷ (words_of a ++ (words_of b ++ rest))
+words_two op a b rest = ap (λ l. Ok (Binary op) ∷ (l ++ rest)) (map-append (λ x. Ok x) (written a) (written b)) ∙ ap (λ l. Ok (Binary op) ∷ l) (append_assoc (words_of a) (words_of b) rest)
 
 stands_words : (t : Tree) (ws : List Word) (at : ℕ) → Stands ws at t → drop at ws ≡ words_of t ++ drop (at + size t) ws
 stands_words (leaf r) ws at s = nth_drop ws at _ s
 stands_words (negation a) ws at s =
     let long : at + 1 + size a ≡ at + (1 + size a) = omega arith in
-    nth_drop ws at _ s.0 ∙ ap (λ l. Known Not ∷ l) (stands_words a ws (at + 1) s.1 ∙ ap (λ n. words_of a ++ drop n ws) long)
+    nth_drop ws at _ s.0 ∙ ap (λ l. Ok Not ∷ l) (stands_words a ws (at + 1) s.1 ∙ ap (λ n. words_of a ++ drop n ws) long)
 stands_words (operation op a b) ws at s =
     let long : at + 1 + size a + size b ≡ at + (1 + size a + size b) = omega arith in
     nth_drop ws at _ s.0
-    ∙ ap (λ l. Known (Binary op) ∷ l) (stands_words a ws (at + 1) s.1 ∙ ap (λ l. words_of a ++ l) (stands_words b ws (at + 1 + size a) s.2 ∙ ap (λ n. words_of b ++ drop n ws) long))
+    ∙ ap (λ l. Ok (Binary op) ∷ l) (stands_words a ws (at + 1) s.1 ∙ ap (λ l. words_of a ++ l) (stands_words b ws (at + 1 + size a) s.2 ∙ ap (λ n. words_of b ++ drop n ws) long))
     ∙ sym (words_two op a b (drop (at + (1 + size a + size b)) ws))
 
 words_stand : (t : Tree) (ws : List Word) (at : ℕ) (rest : List Word) → drop at ws ≡ words_of t ++ rest → Stands ws at t × (drop (at + size t) ws ≡ rest)
@@ -161,7 +160,7 @@ words_stand (negation a) ws at rest e =
     let long : at + (1 + size a) ≡ at + 1 + size a = omega arith in
     ((p.0, q.0), ap (λ n. drop n ws) long ∙ q.1)
 words_stand (operation op a b) ws at rest e =
-    let p = drop_nth ws at (Known (Binary op)) (words_of a ++ (words_of b ++ rest)) (e ∙ words_two op a b rest) in
+    let p = drop_nth ws at (Ok (Binary op)) (words_of a ++ (words_of b ++ rest)) (e ∙ words_two op a b rest) in
     let q = words_stand a ws (at + 1) (words_of b ++ rest) p.1 in
     let r = words_stand b ws (at + 1 + size a) rest q.1 in
     let long : at + (1 + size a + size b) ≡ at + 1 + size a + size b = omega arith in
@@ -216,7 +215,7 @@ stands_one (operation op a b) u ws at s v =
     ap (λ x. operation op x b) first ∙ ap (operation op p.0) second ∙ sym p.2
 
 one : (t u : Tree) → written t ≡ written u → t ≡ u
-one t u e = stands_one t u (words_of t) 0 (whole_stands t (words_of t) refl) (whole_stands u (words_of t) (ap (map (λ x. Known x)) e))
+one t u e = stands_one t u (words_of t) 0 (whole_stands t (words_of t) refl) (whole_stands u (words_of t) (ap (map (λ x. Ok x)) e))
 
 kind_kept : (t : Tree) → kind_of (worth t) ≡ tree_kind t
 kind_kept (leaf r) = refl

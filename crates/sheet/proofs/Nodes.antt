@@ -1,5 +1,5 @@
 -- The tree that stands at a place, by the term there.
-use Rattle.std.proofs.Common.{◌≡◌, ℕ, ◌+◌, true, false, List, [], ◌∷◌, ◌++◌, Some, None, sym, refl, ap, ◌∙◌, subst, append_assoc, append-nil, arith}
+use Rattle.std.proofs.Common.{◌≡◌, ℕ, ◌+◌, true, false, List, [], ◌∷◌, ◌++◌, Some, None, Ok, sym, refl, ap, ◌∙◌, subst, append_assoc, append-nil, arith}
 use Rattle.std.specs.List.{slice_get}
 use Rattle.values.specs.declared.op.Op.{Op}
 use Rattle.values.specs.declared.row.Row.{Row}
@@ -10,8 +10,7 @@ use Rattle.sheet.specs.declared.line.Line.{Line}
 use Rattle.sheet.specs.declared.line.Line.TheVariants.{Not as NotLine, Binary as BinaryLine}
 use Rattle.sheet.specs.declared.word.Term.{Term}
 use Rattle.sheet.specs.declared.word.Term.TheVariants.{Value, Not, Binary}
-use Rattle.sheet.specs.declared.word.Word.{Word}
-use Rattle.sheet.specs.declared.word.Word.TheVariants.{Known}
+use Rattle.sheet.specs.Words.{Word}
 use Rattle.sheet.specs.Trees.{Tree, leaf, negation, operation, Stands, Worked, worth, size}
 
 -- a value comes back from its row
@@ -23,22 +22,22 @@ row_back (boolean (Some true)) = refl
 row_back (boolean (Some false)) = refl
 
 module _ (ws : List Word) (at : ℕ) where
-  pub root : (t : Tree) → Stands ws at t → (x : Term) × (slice_get ws at ≡ Some (Known x))
+  pub root : (t : Tree) → Stands ws at t → (x : Term) × (slice_get ws at ≡ Some (Ok x))
   root (leaf r) s = (Value r, s)
   root (negation a) s = (Not, s.0)
   root (operation op a b) s = (Binary op, s.0)
 
-  pub stands_value : (r : Row) → slice_get ws at ≡ Some (Known (Value r)) → (t : Tree) → Stands ws at t → t ≡ leaf r
+  pub stands_value : (r : Row) → slice_get ws at ≡ Some (Ok (Value r)) → (t : Tree) → Stands ws at t → t ≡ leaf r
   stands_value r e (leaf q) s = let h : q ≡ r = cc in ap leaf h
   stands_value r e (negation a) s = let h = s.0 in absurd (let z : ◌≡◌ {A = ℕ} 0 1 = cc in omega arith)
   stands_value r e (operation op a b) s = let h = s.0 in absurd (let z : ◌≡◌ {A = ℕ} 0 1 = cc in omega arith)
 
-  pub stands_not : slice_get ws at ≡ Some (Known Not) → (t : Tree) → Stands ws at t → (a : Tree) × (t ≡ negation a) × Stands ws (at + 1) a
+  pub stands_not : slice_get ws at ≡ Some (Ok Not) → (t : Tree) → Stands ws at t → (a : Tree) × (t ≡ negation a) × Stands ws (at + 1) a
   stands_not e (leaf q) s = absurd (let z : ◌≡◌ {A = ℕ} 0 1 = cc in omega arith)
   stands_not e (negation a) s = (a, refl, s.1)
   stands_not e (operation op a b) s = let h = s.0 in absurd (let z : ◌≡◌ {A = ℕ} 0 1 = cc in omega arith)
 
-  pub stands_binary : (op : Op) → slice_get ws at ≡ Some (Known (Binary op)) → (t : Tree) → Stands ws at t → (a b : Tree) × (t ≡ operation op a b) × Stands ws (at + 1) a × Stands ws (at + 1 + size a) b
+  pub stands_binary : (op : Op) → slice_get ws at ≡ Some (Ok (Binary op)) → (t : Tree) → Stands ws at t → (a b : Tree) × (t ≡ operation op a b) × Stands ws (at + 1) a × Stands ws (at + 1 + size a) b
   stands_binary op e (leaf q) s = absurd (let z : ◌≡◌ {A = ℕ} 0 1 = cc in omega arith)
   stands_binary op e (negation a) s = let h = s.0 in absurd (let z : ◌≡◌ {A = ℕ} 0 1 = cc in omega arith)
   stands_binary op e (operation o a b) s = let h = s.0 in let p : o ≡ op = cc in (a, b, ap (λ x. operation x a b) p, s.1, s.2)

@@ -1,5 +1,5 @@
 -- The check of an expression, one term at a time.
-use Rattle.std.proofs.Common.{◌≡◌, ℕ, zero, suc, ◌+◌, ◌-◌, ◌<◌, List, IsErrAnd, IfOk, Some, Ok, Err, Option, ap, ◌∙◌, arith}
+use Rattle.std.proofs.Common.{◌≡◌, ℕ, zero, suc, ◌+◌, ◌-◌, ◌<◌, true, false, List, IsErrAnd, MatchResult, Some, Ok, Err, Option, ap, ◌∙◌, arith}
 use Rattle.std.specs.List.{slice_get}
 use Rattle.values.specs.declared.kind.Kind.{Kind}
 use Rattle.values.specs.declared.kind.Kind.TheVariants.{Boolean}
@@ -11,15 +11,14 @@ use Rattle.sheet.specs.declared.fault.Expected.TheVariants.{FewerLevels}
 use Rattle.sheet.specs.declared.fault.Fault.{Fault}
 use Rattle.sheet.specs.declared.word.Term.{Term}
 use Rattle.sheet.specs.declared.word.Term.TheVariants.{Value, Not, Binary}
-use Rattle.sheet.specs.declared.word.Word.{Word}
 use Rattle.sheet.specs.Checks.{check, parts, known, ask, fault, Checked, End, ◌>>◌}
 use Rattle.sheet.specs.Faults.{expected_of}
-use Rattle.sheet.specs.Words.{term_kind}
+use Rattle.sheet.specs.Words.{Word, term_kind}
 
 -- what the exit of a `?` returns
-pub through : {A : Type 0} (r s : Checked A) (P : A → Type 0) {x : Fault} → IsErrAnd r (λ y. y ≡ x) → Err x ≡ s → (r ≡ s) × IfOk r P
+pub through : {A B : Type 0} (r : Checked A) (s : Checked B) (P : A → Type 0) {x : Fault} → IsErrAnd r (λ y. y ≡ x) → Err x ≡ s → MatchResult r P (λ f. Err f ≡ s)
 through (Ok a) s P h e = absurd h
-through (Err y) s P h e = (ap (λ z. Err z) h ∙ e, tt)
+through (Err y) s P h e = ap (λ z. Err z) h ∙ e
 
 pub check_err : (d : ℕ) (ws : List Word) (at : ℕ) (k : Option Kind) {x : Fault} → Err x ≡ known (slice_get ws at) k at → Err x ≡ check d ws at k
 unfolding check
@@ -37,12 +36,12 @@ check_step zero ws at k t h e = absurd (omega arith)
 check_step (suc d) ws at k t h e = let less : suc d - 1 ≡ d = omega arith in rw (less, ← e)
 
 module _ (d : ℕ) (ws : List Word) (at : ℕ) (k : Option Kind) (t : Term) (left : 0 < d) (term : Ok t ≡ known (slice_get ws at) k at) where
-  pub unfit : {x : Fault} → Err x ≡ ask (awaited k (term_kind t)) at (expected_of k) → Err x ≡ check d ws at k
-  unfit e = rw (check_step d ws at k t left term, ← e)
+  pub unfit : awaited k (term_kind t) ≡ false → Err (fault at (expected_of k)) ≡ check d ws at k
+  unfit e = rw (check_step d ws at k t left term, e)
 
-  module _ (fit : Ok tt ≡ ask (awaited k (term_kind t)) at (expected_of k)) where
+  module _ (fit : awaited k (term_kind t) ≡ true) where
     fitted : check d ws at k ≡ parts (λ p j. check (d - 1) ws p j) at t
-    fitted = rw (check_step d ws at k t left term, ← fit)
+    fitted = rw (check_step d ws at k t left term, fit)
 
     pub value_1 : (r : Row) (j : Kind) → t ≡ Value r → j ≡ term_kind t → Ok (at + 1, j) ≡ check d ws at k
     value_1 r j is given = rw (given, fitted, is)

@@ -3,6 +3,7 @@ use Rattle.std.specs.Prelude.{ℕ, zero, suc, ◌+◌, Bool, true, false, cond, 
 use Rattle.std.specs.List.{slice_get}
 use Rattle.values.specs.declared.kind.Kind.{Kind}
 use Rattle.values.specs.declared.kind.Kind.TheVariants.{Boolean}
+use Rattle.values.specs.declared.value.TextFault.TheVariants.{NotAValue, OutOfRange}
 use Rattle.values.specs.Kinds.{awaited}
 use Rattle.values.specs.Ops.{part_kind, gives}
 use Rattle.sheet.specs.declared.fault.Expected.{Expected}
@@ -10,10 +11,8 @@ use Rattle.sheet.specs.declared.fault.Expected.TheVariants.{Word as WordE, Numbe
 use Rattle.sheet.specs.declared.fault.Fault.{Fault}
 use Rattle.sheet.specs.declared.word.Term.{Term}
 use Rattle.sheet.specs.declared.word.Term.TheVariants.{Value, Not, Binary}
-use Rattle.sheet.specs.declared.word.Word.{Word}
-use Rattle.sheet.specs.declared.word.Word.TheVariants.{Known, Unknown, OutOfRange}
 use Rattle.sheet.specs.Faults.{expected_of}
-use Rattle.sheet.specs.Words.{term_kind}
+use Rattle.sheet.specs.Words.{Word, term_kind}
 
 -- the place behind an expression and its kind
 abbrev pub End : Type 0
@@ -44,9 +43,9 @@ ask false at e = Err (fault at e)
 -- the term at a place, where a part of a kind is awaited
 abbrev pub known : Option Word → Option Kind → ℕ → Checked Term
 known None k at = Err (fault at (expected_of k))
-known (Some Unknown) k at = Err (fault at WordE)
-known (Some OutOfRange) k at = Err (fault at Number)
-known (Some (Known t)) k at = Ok t
+known (Some (Err NotAValue)) k at = Err (fault at WordE)
+known (Some (Err OutOfRange)) k at = Err (fault at Number)
+known (Some (Ok t)) k at = Ok t
 
 -- a term's parts, with what the check answers of a part of a kind at each place
 abbrev pub parts : (ℕ → Option Kind → Checked End) → ℕ → Term → Checked End

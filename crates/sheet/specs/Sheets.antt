@@ -6,10 +6,9 @@ use Rattle.values.specs.Rows.{row_of}
 use Rattle.sheet.specs.declared.sheet.Sheet.{Sheet}
 use Rattle.sheet.specs.declared.sheet.Stop.{Stop}
 use Rattle.sheet.specs.declared.sheet.Stop.TheVariants.{Memory, Wrong}
-use Rattle.sheet.specs.declared.word.Word.{Word}
 use Rattle.sheet.specs.Checks.{check_line}
 use Rattle.sheet.specs.Trees.{Tree, Expression, worth, lines}
-use Rattle.sheet.specs.Words.{word_of}
+use Rattle.sheet.specs.Words.{Word, word_of}
 
 abbrev pub words_of : List (Bor (List ℕ)) → List Word
 words_of texts = map (λ t. word_of t.now) texts

@@ -13,9 +13,8 @@ use Rattle.sheet.specs.declared.line.Line.{Line}
 use Rattle.sheet.specs.declared.line.Line.TheVariants.{Not as NotLine, Binary as BinaryLine}
 use Rattle.sheet.specs.declared.word.Term.{Term}
 use Rattle.sheet.specs.declared.word.Term.TheVariants.{Value, Not, Binary}
-use Rattle.sheet.specs.declared.word.Word.{Word}
-use Rattle.sheet.specs.declared.word.Word.TheVariants.{Known}
 use Rattle.sheet.specs.Checks.{check_line}
+use Rattle.sheet.specs.Words.{Word}
 
 pub data Tree : Type 0 where
   leaf : Row → Tree
@@ -57,7 +56,7 @@ depth (operation op a b) = 1 + max (depth a) (depth b)
 
 -- the words are the prefix form of a tree that keeps the rules
 pub record Expression (ws : List Word) (k : Kind) (t : Tree) : Type 0 where
-  pub words : ws ≡ map Known (written t)
+  pub words : ws ≡ map (λ x. Ok x) (written t)
   pub kinds : Kinded t
   pub kind : tree_kind t ≡ k
   pub deep : depth t ≤ 32
@@ -77,9 +76,9 @@ size (operation op a b) = 1 + size a + size b
 
 -- the words from a place on begin with a tree's prefix form
 abbrev pub Stands : List Word → ℕ → Tree → Type 0
-Stands ws at (leaf r) = slice_get ws at ≡ Some (Known (Value r))
-Stands ws at (negation a) = (slice_get ws at ≡ Some (Known Not)) × Stands ws (at + 1) a
-Stands ws at (operation op a b) = (slice_get ws at ≡ Some (Known (Binary op))) × Stands ws (at + 1) a × Stands ws (at + 1 + size a) b
+Stands ws at (leaf r) = slice_get ws at ≡ Some (Ok (Value r))
+Stands ws at (negation a) = (slice_get ws at ≡ Some (Ok Not)) × Stands ws (at + 1) a
+Stands ws at (operation op a b) = (slice_get ws at ≡ Some (Ok (Binary op))) × Stands ws (at + 1) a × Stands ws (at + 1 + size a) b
 
 -- what working out a tree gives: its value, the place behind it, and its lines behind those before
 pub record Worked (t : Tree) (at : ℕ) (value : Row) (end : ℕ) (before after : List Line) : Type 0 where

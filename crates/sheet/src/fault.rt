@@ -34,7 +34,10 @@ impl Expected {
             None => Expected::Value,
         }
     }
+}
 
+impl Expected {
+    // The text itself: to write it can fail, to have it can not.
     pub fn text(self) -> &'static str
         ensures { result.now ≡ expected_text self }
     {

@@ -4,6 +4,7 @@
 pub mod check;
 pub mod fault;
 pub mod line;
+mod reader;
 pub mod sheet;
 pub mod word;
 pub mod work;

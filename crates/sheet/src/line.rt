@@ -1,5 +1,5 @@
 // One operation as it is worked out.
-ghost use Rattle.std.specs.Prelude.{◌++◌, Some};
+ghost use Rattle.std.specs.Prelude.{Some};
 ghost use Rattle.sheet.specs.Lines.{line_text};
 
 use std::fmt;

@@ -7,8 +7,8 @@ ghost use Rattle.sheet.specs.declared.sheet.Stop.TheVariants.{Memory, Wrong};
 use crate::check::check_words;
 use crate::fault::Fault;
 use crate::line::Line;
+use crate::reader::Reader;
 use crate::word::{Word, read_word};
-use crate::work::work;
 use std::alloc::{AllocError, Global};
 use values::row::Row;
 
@@ -19,7 +19,7 @@ pub struct Sheet {
     pub value: Row,
 }
 
-// Why there is no sheet.
+// Why there is no sheet. An enum of its own, so that `?` turns an error of either kind into it.
 #[derive(Clone, Copy)]
 pub enum Stop {
     Memory,
@@ -45,26 +45,20 @@ impl From<Fault> for Stop {
 fn read_words(heap: Global, texts: &[&str]) -> Result<Vec<Word>, AllocError>
     ensures { IfOk result (λ v. v.items ≡ words_of texts.now) }
 {
-    let mut words = Vec::new(heap);
-    for text in texts {
-        words.push(read_word(text))?;
-    }
-    Ok(words)
+    texts.iter().map(|text| read_word(text)).collect(heap)
 }
 
 fn worked_out(heap: Global, words: &[Word]) -> Result<Sheet, Stop>
     ensures { Answered words.now result }
 {
-    let _kind = check_words(words)?;
+    check_words(words)?;
     let mut lines = Vec::new(heap);
-    let part = work(words, 0, &mut lines)?;
-    Ok(Sheet {
-        lines,
-        value: part.0,
-    })
+    let value = Reader::new(words).work(&mut lines)?;
+    Ok(Sheet { lines, value })
 }
 
 // The sheet of the expression that the words write.
+#[tactic(auto, using(crate::proofs::Accepts::reads_expressions))]
 pub fn evaluate(heap: Global, texts: &[&str]) -> Result<Sheet, Stop>
     ensures answer { Answered (words_of texts.now) result }
     ensures law { ReadsExpressions }

@@ -1,6 +1,5 @@
 // The words of an expression in prefix form.
-ghost use Rattle.std.specs.Prelude.{◌≡◌, ◌<◌, length, OnSome};
-ghost use Rattle.std.specs.List.{slice_get};
+ghost use Rattle.std.specs.Prelude.{◌≡◌};
 ghost use Rattle.sheet.specs.Words.{word_of, value_word, term_kind};
 
 use values::kind::Kind;
@@ -16,12 +15,8 @@ pub enum Term {
     Binary(Op),
 }
 
-#[derive(Clone, Copy)]
-pub enum Word {
-    Known(Term),
-    Unknown,
-    OutOfRange,
-}
+// What a word is: a term, or why it is none.
+pub type Word = Result<Term, TextFault>;
 
 impl Term {
     // The kind of the expression that it begins.
@@ -40,34 +35,18 @@ impl Term {
 fn value_word(text: &str) -> Word
     ensures { result ≡ value_word text.now }
 {
-    match text.parse::<Value>() {
-        Ok(value) => Word::Known(Term::Value(Row::of(value))),
-        Err(fault) => match fault {
-            TextFault::NotAValue => Word::Unknown,
-            TextFault::OutOfRange => Word::OutOfRange,
-        },
-    }
+    let value = text.parse::<Value>()?;
+    Ok(Term::Value(Row::from(value)))
 }
 
 pub fn read_word(text: &str) -> Word
     ensures { result ≡ word_of text.now }
 {
     match text {
-        "NOT" => Word::Known(Term::Not),
-        _ => match Op::of_name(text) {
-            Some(op) => Word::Known(Term::Binary(op)),
-            None => value_word(text),
+        "NOT" => Ok(Term::Not),
+        _ => match text.parse() {
+            Ok(op) => Ok(Term::Binary(op)),
+            Err(_) => value_word(text),
         },
-    }
-}
-
-// The word at a place, if any.
-pub(crate) fn word_at(words: &[Word], at: usize) -> Option<Word>
-    ensures exact { result ≡ slice_get words.now at }
-    ensures inside { OnSome result (at < length words.now) }
-{
-    match words.get(at) {
-        Some(word) => Some(*word),
-        None => None,
     }
 }

@@ -1,28 +1,26 @@
 // The command `steps`: the steps that an admitted file permits at its start.
-ghost use Rattle.std.specs.Prelude.{◌≡◌, ◌≤◌, is_ok, if◌then◌else◌};
+ghost use Rattle.std.specs.Prelude.{◌≡◌, ◌≤◌, Err, IfErr, is_ok, if◌then◌else◌};
 ghost use Rattle.admission.specs.Read.{read};
 ghost use Rattle.records.specs.Lists.{items, room_of};
 ghost use Rattle.starts.specs.Firsts.{first_steps};
 
-use inspect::check::{print_check, print_hex_fault};
-use inspect::hex::bytes_of;
-use models::model::Model;
+use files::fault::LoadFault;
+use inspect::check::answer_bytes;
+use models::model::{MOST_STEPS, Model};
 use records::list::RecordList;
 use records::step::Step;
 
-// The most steps that a model can have.
-const MOST_STEPS: usize = 1088;
-
-// Writes the steps of an admitted file at its start; no, and nothing altered, for any other.
-fn list_first(file: &[u8], out: &mut RecordList<'_, Step>) -> bool
+// Writes the steps of an admitted file at its start; any other is refused with its first fault, and nothing altered.
+fn list_first(file: &[u8], out: &mut RecordList<'_, Step>) -> Result<(), LoadFault>
     requires { 1088 ≤ room_of out.old }
-    ensures admitted { result ≡ is_ok (read file.now) }
-    ensures list { items out.new ≡ (if result then first_steps (read file.now) else items out.old) }
+    ensures admitted { is_ok result ≡ is_ok (read file.now) }
+    ensures fault { IfErr result (λ x. read file.now ≡ Err x) }
+    ensures list { items out.new ≡ (if is_ok result then first_steps (read file.now) else items out.old) }
 {
-    match Model::start(file) {
-        Ok(model) => model.list(out),
-        Err(_) => false,
-    }
+    let model = Model::start(file)?;
+    // the table has room
+    let _listed = model.list(out);
+    Ok(())
 }
 
 fn print_list(rt: &HostRuntime, list: &[Step]) -> anyhow::Result<()> {
@@ -37,16 +35,13 @@ fn print_list(rt: &HostRuntime, list: &[Step]) -> anyhow::Result<()> {
 fn print_steps(rt: &HostRuntime, file: &[u8]) -> anyhow::Result<()> {
     let mut memory = [Step::internal(0, 0); MOST_STEPS];
     let mut table = RecordList::new(&mut memory);
-    if list_first(file, &mut table) {
-        print_list(rt, table.all())
-    } else {
-        print_check(rt, file)
+    match list_first(file, &mut table) {
+        Ok(()) => print_list(rt, table.all())?,
+        Err(fault) => println!(rt; "{fault}")?,
     }
+    Ok(())
 }
 
 pub fn steps(rt: &HostRuntime, words: &[&str]) -> anyhow::Result<()> {
-    match bytes_of(rt.alloc(), words) {
-        Ok(file) => print_steps(rt, file.as_slice()),
-        Err(fault) => print_hex_fault(rt, words, fault),
-    }
+    answer_bytes(rt, words, print_steps)
 }

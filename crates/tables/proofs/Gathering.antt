@@ -1,6 +1,7 @@
 -- The fronts of a process are its fronts of the numbers 0 to 7.
-use Rattle.std.proofs.Common.{◌≡◌, ℕ, zero, suc, ◌+◌, ◌<◌, ◌≤◌, Bool, true, false, cond, eqb, ◌⊎◌, List, [], ◌∷◌, ◌++◌, map, length, Some, None, Option, sym, refl, ap, ◌∙◌, subst, inl, inr, arith}
+use Rattle.std.proofs.Common.{◌≡◌, ℕ, zero, suc, ◌+◌, ◌<◌, ◌≤◌, Bool, true, false, cond, eqb, ◌⊎◌, List, [], ◌∷◌, ◌++◌, map, Some, None, Option, sym, refl, ap, ◌∙◌, subst, inl, inr, arith}
 use Rattle.std.proofs.lemmas.Bool.{eqb-true, ne_eqb}
+use Rattle.std.proofs.lemmas.List.{map-append}
 use Rattle.std.proofs.lemmas.Bool.Decides.{eqb_tells}
 use Rattle.std.specs.List.{range_with_len, flat_map, AllByRecursion}
 use Rattle.values.specs.declared.kind.Kind.{Kind}
@@ -15,6 +16,7 @@ use Rattle.tables.specs.Offered.{seen_offers}
 use Rattle.processes.specs.declared.front.Front.{Front as FrontC}
 use Rattle.processes.specs.Found.{Answers, StandsFor, front_numbered}
 use Rattle.processes.specs.Fronts.{Front, process_fronts}
+use Rattle.processes.proofs.Ascending.{ascend_short, ascend_below, none_before}
 use Rattle.processes.proofs.Kept.{few_fronts}
 use Rattle.processes.proofs.Numbered.{numbered}
 use Rattle.processes.specs.Laws.{Ascend}
@@ -31,20 +33,6 @@ numbered_so n (x ∷ fs) y h = by (λ k. numbered_so n fs y k) (eqb x.number n) 
     by : (front_numbered n fs ≡ Some y → y.number ≡ n) → (t : Bool) → eqb x.number n ≡ t → cond t (Some x) (front_numbered n fs) ≡ Some y → y.number ≡ n
     by later true e k = let i : x ≡ y = cc in ap (λ z. z.number) (sym i) ∙ eqb-true x.number n e
     by later false e k = later k
-
-ascends : (a b : ℕ) (fs : List Front) → Ascend a fs b → a ≤ b
-ascends a b [] h = h
-ascends a b (x ∷ fs) h = omega (arith, h.0, ascends (x.number + 1) b fs h.1)
-
-pub ascend_below : (a b d : ℕ) (fs : List Front) → b ≤ d → Ascend a fs b → Ascend a fs d
-ascend_below a b d [] l h = omega arith
-ascend_below a b d (x ∷ fs) l h = (h.0, ascend_below (x.number + 1) b d fs l h.1)
-
-none_before : (n a b : ℕ) (fs : List Front) → Ascend a fs b → n < a → front_numbered n fs ≡ None
-none_before n a b [] h l = refl
-none_before n a b (x ∷ fs) h l =
-    let ne : x.number ≡ n → ⊥ = λ e. omega (arith, h.0, l, e) in
-    rw (ne_eqb x.number n ne) (none_before n (x.number + 1) b fs h.1 (omega (arith, h.0, l)))
 
 module _ {T : Type 0} (g : Option Front → Option T) (h : Front → T) (g_none : g None ≡ None) (g_some : (x : Front) → g (Some x) ≡ Some (h x)) where
   abbrev found : List Front → ℕ → List T
@@ -64,7 +52,7 @@ module _ {T : Type 0} (g : Option Front → Option T) (h : Front → T) (g_none 
 
   pub all_found : (m k : ℕ) (fs : List Front) → k + m ≡ 8 → Ascend k fs 8 → flat_map (found fs) (range_with_len k m) ≡ map h fs
   all_found m k [] e a = none_found k m
-  all_found zero k (x ∷ fs) e a = absurd (omega (arith, e, a.0, ascends (x.number + 1) 8 fs a.1))
+  all_found zero k (x ∷ fs) e a = absurd (omega (arith, e, a.0, ascend_short (x.number + 1) 8 fs a.1))
   all_found (suc m) k (x ∷ fs) e a =
       let e' : k + 1 + m ≡ 8 = omega (arith, e) in
       either (λ b. all_found m (k + 1) fs e' b) (λ b. all_found m (k + 1) (x ∷ fs) e' b) (eqb_tells x.number k)
@@ -94,15 +82,7 @@ eight ks ds vs (s ∷ ss) k =
     let few = few_fronts ks ds s k.0 in
     ascend_below 0 (0 + most_fronts s) 8 (process_fronts vs (s ∷ ss)) (omega (arith, few)) (numbered vs 0 s ss)
 
-pub ascend_short : (a b : ℕ) (fs : List Front) → Ascend a fs b → a + length fs ≤ b
-ascend_short a b [] h = omega arith
-ascend_short a b (x ∷ fs) h = omega (arith, h.0, ascend_short (x.number + 1) b fs h.1)
-
-map_join : {A B : Type 0} (g : A → B) (xs ys : List A) → map g (xs ++ ys) ≡ map g xs ++ map g ys
-map_join g [] ys = refl
-map_join g (x ∷ xs) ys = ap (λ zs. g x ∷ zs) (map_join g xs ys)
-
 -- the offers of processes that are numbered one after the other
 pub numbered_offers : (one : ℕ → Process) (k m : ℕ) → flat_map (λ p. seen_offers p (one p)) (range_with_len k m) ≡ map offer_of (offers_from k (map one (range_with_len k m)))
 numbered_offers one k zero = refl
-numbered_offers one k (suc m) = ap (λ os. seen_offers k (one k) ++ os) (numbered_offers one (k + 1) m) ∙ sym (map_join offer_of (offers_of k (one k)) _)
+numbered_offers one k (suc m) = ap (λ os. seen_offers k (one k) ++ os) (numbered_offers one (k + 1) m) ∙ sym (map-append offer_of (offers_of k (one k)) _)

@@ -11,6 +11,7 @@ use Rattle.admission.specs.Conditions.{HaveKinds, DeclarationKept}
 use Rattle.processes.specs.Classes.{PermittedBy, FrontKept}
 use Rattle.processes.specs.Evaluation.{values_of}
 use Rattle.processes.specs.Fronts.{Action, internal, store, sends, receives, Front, process_fronts}
+use Rattle.processes.proofs.Ascending.{ascend_short}
 use Rattle.processes.proofs.Kept.{class_laws}
 use Rattle.listing.specs.Offers.{HoldableAction, Holdable}
 use Rattle.steps.specs.Steps.{Offer, offers_of, offers_from}
@@ -20,7 +21,7 @@ use Rattle.tables.specs.Offered.{SoundTable}
 use Rattle.tables.specs.Rows.{no_entry, rows_of}
 use Rattle.tables.specs.Views.{left_in, process_in, processes_in, class_in_file}
 use Rattle.tables.proofs.Admitted.{good}
-use Rattle.tables.proofs.Gathering.{eight, ascend_short}
+use Rattle.tables.proofs.Gathering.{eight}
 use Rattle.tables.proofs.Moved.{kinds_of_class}
 
 -- what is declared keeps the bounds of declarations

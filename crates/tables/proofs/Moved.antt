@@ -2,8 +2,10 @@
 use Rattle.std.proofs.Common.{◌≡◌, ℕ, ◌<◌, Bool, true, false, cond, eqb, ltb, ◌≢◌, List, [], ◌∷◌, map, get_or, take, Some, sym, ap, ◌∙◌, subst, arith, get_or-set_other, get_or-set_same}
 use Rattle.std.specs.List.{AllByRecursion}
 use Rattle.std.proofs.lemmas.Bool.{lt-ltb}
+use Rattle.std.proofs.lemmas.List.{take-map}
 use Rattle.values.specs.declared.kind.Kind.{Kind}
 use Rattle.values.specs.declared.row.Row.{Row}
+use Rattle.values.specs.Rows.{value_of_row}
 use Rattle.values.specs.Values.{Val, kind_of}
 use Rattle.commands.specs.ByteLists.{Bytes}
 use Rattle.processes.specs.declared.front.Front.{Front as FrontC}
@@ -22,7 +24,7 @@ use Rattle.tables.specs.Rows.{no_entry, rows_of}
 use Rattle.tables.specs.Views.{left_in, view, process_in, class_in_file, of_class, sound_entry}
 use Rattle.tables.proofs.Admitted.{Good, good}
 use Rattle.tables.proofs.Sound.{all_read, and_true, kept_sound}
-use Rattle.tables.proofs.Storing.{take_after, take_map}
+use Rattle.tables.proofs.Storing.{take_after}
 
 -- what holds of all fronts holds of the one of a number
 pub of_number : (P : Front → Type 0) (n : ℕ) (fs : List Front) (y : Front) → AllByRecursion P fs → front_numbered n fs ≡ Some y → P y
@@ -69,10 +71,10 @@ module _ (f : List ℕ) (n : ℕ) (bs : Bytes f) (t u : Table) (p : ℕ) (x : Fr
       let rows : rows_of u p ≡ take e.variables new = (λ i. take (here i).variables (row i)) in
       let values : values_of (rows_of u p) ≡ after (values_of (rows_of t p)) y.does got =
       ap values_of rows
-      ∙ take_map e.variables new
+      ∙ sym (take-map value_of_row e.variables new)
       ∙ ap (take e.variables) adv.rows.2
       ∙ take_after e.variables (values_of (get_or t.rows p [])) (action_of x.action) got
-      ∙ ap (λ vs. after vs (action_of x.action) got) (sym (take_map e.variables (get_or t.rows p [])))
+      ∙ ap (λ vs. after vs (action_of x.action) got) (take-map value_of_row e.variables (get_or t.rows p []))
       ∙ ap (λ a. after (values_of (rows_of t p)) a got) stands.does
       in
       let left : left_in f x.leaves ≡ y.leaves = all_read f (places_of x.leaves) y.leaves stands.leaves fk.room in

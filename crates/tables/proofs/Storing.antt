@@ -47,8 +47,3 @@ take_after n vs internal got = refl
 take_after n vs (store v x) got = take_set n vs v x
 take_after n vs (sends c m xs) got = refl
 take_after n vs (receives c m ws) got = take_stored n vs ws got
-
-pub take_map : (n : ℕ) (rows : List Row) → values_of (take n rows) ≡ take n (values_of rows)
-take_map zero rows = refl
-take_map (suc n) [] = refl
-take_map (suc n) (r ∷ rows) = ap (λ vs. value_of_row r ∷ vs) (take_map n rows)

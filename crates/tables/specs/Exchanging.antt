@@ -1,9 +1,10 @@
 -- The values that an action sends, and the kinds that it asks for.
-use Rattle.std.specs.Prelude.{List, [], take}
+use Rattle.std.specs.Prelude.{List, []}
+use Rattle.values.specs.declared.few.Few.{Few}
 use Rattle.values.specs.declared.kind.Kind.{Kind}
 use Rattle.values.specs.declared.row.Row.{Row}
+use Rattle.values.specs.Few.{listed}
 use Rattle.values.specs.Values.{Val}
-use Rattle.processes.specs.declared.front.Sent.{Sent}
 use Rattle.processes.specs.Fronts.{Action, internal, store, sends, receives}
 use Rattle.steps.specs.Steps.{target_kinds}
 
@@ -20,5 +21,5 @@ sent_by (sends c m xs) = xs
 sent_by (receives c m ws) = []
 
 -- the rows of some values
-abbrev pub rows_in : Sent → List Row
-rows_in s = take s.count s.rows
+abbrev pub rows_in : Few Row 4 → List Row
+rows_in s = listed s

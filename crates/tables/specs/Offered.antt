@@ -1,8 +1,6 @@
 -- What the processes of a table offer.
-use Rattle.std.specs.Prelude.{◌≡◌, ℕ, zero, suc, ◌<◌, ◌≤◌, true, List, [], ◌∷◌, map, Some, None, Ok, Option, slice_index_or}
-use Rattle.values.specs.declared.kind.Kind.{Kind}
+use Rattle.std.specs.Prelude.{◌≡◌, ℕ, ◌<◌, ◌≤◌, true, List, map, Some, None, Ok, Option, slice_index_or}
 use Rattle.values.specs.declared.row.Row.{Row}
-use Rattle.values.specs.Kinds.{kind_number}
 use Rattle.files.specs.Files.{Summary, check_file}
 use Rattle.processes.specs.Fronts.{Front}
 use Rattle.listing.specs.declared.offer.Offer.{Offer}
@@ -24,12 +22,6 @@ pub record SoundProcess (f : List ℕ) (n : ℕ) (e : Entry) (rows : List Row) :
 pub record SoundTable (f : List ℕ) (n : ℕ) (t : Table) (count : ℕ) : Type 0 where
   pub each : (p : ℕ) → p < count → SoundProcess f n (slice_index_or t.entries p no_entry) (rows_of t p)
   pub few : count ≤ 8
-
--- the number of a kind of a list; 0 where there is none
-abbrev pub kind_byte : List Kind → ℕ → ℕ
-kind_byte [] i = 0
-kind_byte (k ∷ ks) zero = kind_number k
-kind_byte (k ∷ ks) (suc i) = kind_byte ks i
 
 -- an offer of front n of process p
 abbrev pub seen_front : ℕ → Process → Option Front → Option Offer

@@ -1,6 +1,5 @@
 // A process of a table after one of its fronts.
-ghost use Rattle.std.specs.Prelude.{◌≡◌, ◌<◌, map, length, slice_set};
-ghost use Rattle.values.specs.Rows.{value_of_row};
+ghost use Rattle.std.specs.Prelude.{◌≡◌, ◌<◌, slice_set};
 ghost use Rattle.processes.specs.Classes.{stored, after};
 ghost use Rattle.processes.specs.Evaluation.{values_of};
 ghost use Rattle.processes.specs.Found.{action_of};
@@ -11,6 +10,7 @@ use processes::front::{Action, Front};
 use values::row::Row;
 
 // Puts a row in place; nothing where there is no such variable.
+// By index: what a write through `get_mut` leaves of the slice is not proved.
 fn put_row(rows: &mut [Row], variable: u8, row: Row)
     ensures { rows.new ≡ slice_set rows.old variable row }
 {
@@ -21,6 +21,7 @@ fn put_row(rows: &mut [Row], variable: u8, row: Row)
 }
 
 // Stores the values of a receive in its variables, in order.
+// By index: what a `zip` leaves of both lists is not proved.
 fn store_values(rows: &mut [Row], targets: &[u8], got: &[Row])
     ensures { values_of rows.new ≡ stored (values_of rows.old) targets.now (values_of got.now) }
 {
@@ -37,12 +38,9 @@ fn after_action(rows: [Row; 8], action: &Action, got: &[Row]) -> [Row; 8]
 {
     let mut next = rows;
     match action {
-        Action::Internal => {}
+        Action::Internal | Action::Send(_, _, _) => {}
         Action::Store(variable, row) => put_row(&mut next, *variable, *row),
-        Action::Send(_channel, _message, _sent) => {}
-        Action::Receive(_channel, _message, targets) => {
-            store_values(&mut next, targets.all(), got)
-        }
+        Action::Receive(_, _, targets) => store_values(&mut next, targets.as_slice(), got),
     }
     next
 }

@@ -1,21 +1,19 @@
 // What the processes of a table offer.
-ghost use Rattle.std.specs.Prelude.{◌≡◌, ◌+◌, ◌*◌, ◌≤◌, [], map, length, None, slice_index_or};
-ghost use Rattle.std.specs.List.{AllByRecursion};
-ghost use Rattle.values.specs.Kinds.{kind_number};
+ghost use Rattle.std.specs.Prelude.{◌≡◌, ℕ, ◌+◌, ◌*◌, ◌≤◌, map, length, None, slice_index_or};
+ghost use Rattle.std.specs.List.{AllByRecursion, slice_get};
 ghost use Rattle.values.specs.Values.{integer, kind_of};
 ghost use Rattle.commands.specs.ByteLists.{Bytes};
 ghost use Rattle.processes.specs.Evaluation.{values_of};
-ghost use Rattle.processes.specs.Fronts.{internal};
 ghost use Rattle.processes.specs.Found.{Answers, action_of};
 ghost use Rattle.records.specs.Lists.{items, room_of, Grown};
-ghost use Rattle.listing.specs.Offers.{kind_bytes, seen, offer_of, Holdable};
+ghost use Rattle.listing.specs.Offers.{kind_places, seen, offer_of, Holdable};
 ghost use Rattle.steps.specs.Steps.{target_kinds, offers_from};
 ghost use Rattle.steps.specs.Taking.{offered_front};
 ghost use Rattle.tables.specs.Views.{view, processes_in};
-ghost use Rattle.tables.specs.Offered.{SoundProcess, SoundTable, kind_byte, offer_numbered, seen_offers};
+ghost use Rattle.tables.specs.Offered.{SoundProcess, SoundTable, offer_numbered, seen_offers};
 
 use crate::table::{Entry, Table};
-use listing::offer::{Offer, Role};
+use listing::offer::{Exchange, Offer, Role};
 use processes::finding::front_of_places;
 use processes::front::{Action, Front};
 use records::list::RecordList;
@@ -23,6 +21,7 @@ use values::kind::Kind;
 use values::row::Row;
 
 // The front of a number of a process; none where the process does not offer it.
+// Its parts are no struct with the fact as ghost field: behind a field the range of the file's bytes is not known.
 pub fn front_of(file: &[u8], classes: u8, entry: &Entry, rows: &[Row], number: u8) -> Option<Front>
     requires { SoundProcess file.now classes entry.now rows.now }
     ensures front { Answers file.now result (offered_front (view file.now entry.now rows.now) number) }
@@ -31,98 +30,70 @@ pub fn front_of(file: &[u8], classes: u8, entry: &Entry, rows: &[Row], number: u
     front_of_places(file, entry.left, rows, number)
 }
 
-// The number of the kind of value `i`; 0 where there is none.
-fn kind_byte(rows: &[Row], i: usize) -> u8
-    ensures { result ≡ kind_byte (map kind_of (values_of rows.now)) i }
+// The kind of value `i`; none where there is no such value.
+fn kind_at(rows: &[Row], i: usize) -> Option<Kind>
+    ensures { result ≡ slice_get (map kind_of (values_of rows.now)) i }
 {
-    if i < rows.len() {
-        rows[i].value().kind().number()
-    } else {
-        0
-    }
+    let row = rows.get(i)?;
+    Some(row.value().kind())
 }
 
-pub(crate) fn kind_bytes(rows: &[Row]) -> [u8; 4]
-    ensures { result ≡ kind_bytes 4 (map kind_of (values_of rows.now)) }
+// The kinds of at most four values, none where unused.
+// One by one: what `from_fn` gives of a closure that calls `kind_at` is not proved.
+pub(crate) fn kinds_of(rows: &[Row]) -> [Option<Kind>; 4]
+    ensures { result ≡ kind_places 4 (map kind_of (values_of rows.now)) }
 {
     [
-        kind_byte(rows, 0),
-        kind_byte(rows, 1),
-        kind_byte(rows, 2),
-        kind_byte(rows, 3),
+        kind_at(rows, 0),
+        kind_at(rows, 1),
+        kind_at(rows, 2),
+        kind_at(rows, 3),
     ]
 }
 
-// The number of the kind of a variable; an absent one is read as an Integer.
-fn variable_kind(rows: &[Row], variable: u8) -> u8
-    ensures { result ≡ kind_number (kind_of (slice_index_or (values_of rows.now) variable (integer None))) }
+// The kind of a variable; an absent one is read as an Integer.
+fn variable_kind(rows: &[Row], variable: u8) -> Kind
+    ensures { result ≡ kind_of (slice_index_or (values_of rows.now) variable (integer None)) }
 {
-    let i = variable as usize;
-    if i < rows.len() {
-        rows[i].value().kind().number()
-    } else {
-        Kind::Integer.number()
-    }
+    kind_at(rows, variable as usize).unwrap_or(Kind::Integer)
 }
 
-// The same for the variable `i` of a receive; 0 where there is none.
-fn target_byte(targets: &[u8], rows: &[Row], i: usize) -> u8
-    ensures { result ≡ kind_byte (target_kinds (values_of rows.now) targets.now) i }
+// The same for variable `i` of a receive; none where there is no such variable.
+fn target_at(targets: &[u8], rows: &[Row], i: usize) -> Option<Kind>
+    ensures { result ≡ slice_get (target_kinds (values_of rows.now) targets.now) i }
 {
-    if i < targets.len() {
-        variable_kind(rows, targets[i])
-    } else {
-        0
-    }
+    let variable = targets.get(i)?;
+    Some(variable_kind(rows, *variable))
 }
 
-pub(crate) fn target_bytes(targets: &[u8], rows: &[Row]) -> [u8; 4]
-    ensures { result ≡ kind_bytes 4 (target_kinds (values_of rows.now) targets.now) }
+// The kinds of the variables of a receive, none where unused; one by one as above.
+pub(crate) fn kinds_of_targets(targets: &[u8], rows: &[Row]) -> [Option<Kind>; 4]
+    ensures { result ≡ kind_places 4 (target_kinds (values_of rows.now) targets.now) }
 {
     [
-        target_byte(targets, rows, 0),
-        target_byte(targets, rows, 1),
-        target_byte(targets, rows, 2),
-        target_byte(targets, rows, 3),
+        target_at(targets, rows, 0),
+        target_at(targets, rows, 1),
+        target_at(targets, rows, 2),
+        target_at(targets, rows, 3),
     ]
 }
 
 // What others see of an action of a process.
-fn seen_action(process: u8, number: u8, action: &Action, rows: &[Row]) -> Offer
-    ensures { result ≡ seen process number (values_of rows.now) (action_of action.now) }
+fn seen_role(action: &Action, rows: &[Row]) -> Role
+    ensures { (p n : ℕ) → seen p n (values_of rows.now) (action_of action.now) ≡ record { process = p; front = n; role = result } }
 {
     match action {
-        Action::Internal => internal_offer(process, number),
-        Action::Store(_variable, _row) => internal_offer(process, number),
-        Action::Send(channel, message, sent) => Offer {
-            process,
-            front: number,
-            role: Role::Send,
+        Action::Internal | Action::Store(_, _) => Role::Internal,
+        Action::Send(channel, message, sent) => Role::Send(Exchange {
             channel: *channel,
             message: *message,
-            kinds: kind_bytes(sent.all()),
-        },
-        Action::Receive(channel, message, targets) => Offer {
-            process,
-            front: number,
-            role: Role::Receive,
+            kinds: kinds_of(sent.as_slice()),
+        }),
+        Action::Receive(channel, message, targets) => Role::Receive(Exchange {
             channel: *channel,
             message: *message,
-            kinds: target_bytes(targets.all(), rows),
-        },
-    }
-}
-
-fn internal_offer(process: u8, number: u8) -> Offer
-    ensures { result ≡ seen process number [] internal }
-{
-    Offer {
-        process,
-        front: number,
-        role: Role::Internal,
-        channel: 0,
-        message: 0,
-        kinds: [0; 4],
+            kinds: kinds_of_targets(targets.as_slice(), rows),
+        }),
     }
 }
 
@@ -139,10 +110,14 @@ fn offer_of(
     ensures { result ≡ offer_numbered process (view file.now entry.now rows.now) number }
 {
     let front = front_of(file, classes, entry, rows, number)?;
-    Some(seen_action(process, number, &front.action, rows))
+    Some(Offer {
+        process,
+        front: number,
+        role: seen_role(&front.action, rows),
+    })
 }
 
-// The offers of one process, by the numbers of its fronts.
+// The offers of one process, by the numbers of its fronts: no list of them stands in memory.
 fn put_offers_of(
     file: &[u8],
     classes: u8,
@@ -161,6 +136,7 @@ fn put_offers_of(
 }
 
 // The offers of the first processes of a table, by process and front.
+// By number: offers name it, and the places behind `count` are no processes.
 pub fn put_offers(
     file: &[u8],
     classes: u8,

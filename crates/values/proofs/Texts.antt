@@ -1,5 +1,6 @@
 -- What is read from a text.
-use Rattle.std.proofs.Common.{◌≡◌, ℕ, ◌+◌, ◌<◌, Bool, true, false, cond, ◌&&◌, List, length, get_or, drop, ℤ, pos, negsuc, Ok, Err, codes, Decides, refl, ap, ◌∙◌, add-one, arith, drop-cons, w32, SFits}
+use Rattle.std.specs.List.{list_all}
+use Rattle.std.proofs.Common.{◌≡◌, ℕ, Bool, true, false, cond, ◌&&◌, List, [], ◌∷◌, ℤ, pos, negsuc, Ok, Err, codes, Decides, refl, ap, ◌∙◌, arith, w32, SFits}
 use Rattle.std.proofs.lemmas.Slice.Eq.{bytes_eq-Decides}
 use Rattle.std.proofs.lemmas.Bool.Decides.{nat_tests}
 use Rattle.std.proofs.lemmas.Str.Parse.{IsNumeralModel, numerals_by_value, tells_all_ascii_digits}
@@ -9,10 +10,6 @@ use Rattle.std.specs.Str.{all_ascii_digits, bytes_eq}
 use Rattle.values.specs.declared.value.TextFault.TheVariants.{NotAValue, OutOfRange}
 use Rattle.values.specs.Texts.{is_numeral, read_signed, read_value, as_integer}
 use Rattle.values.specs.Values.{in_range}
-
--- one byte more
-pub digits_step : (bs : List ℕ) (i : ℕ) → i < length bs → all_ascii_digits (drop i bs) ≡ (is_ascii_digit (get_or bs i 0) && all_ascii_digits (drop (i + 1) bs))
-digits_step bs i h = rw (add-one, drop-cons bs i 0)
 
 not_true : (b : Bool) → (b ≡ true → ⊥) → b ≡ false
 not_true true n = absurd (n refl)
@@ -50,3 +47,8 @@ not_same xs ys n = not_true _ (λ e. n ((bytes_eq-Decides xs ys).0 e))
 -- a text that is none of the four words writes a number or nothing
 pub read_other : (bs : List ℕ) → (bs ≡ codes "?i" → ⊥) → (bs ≡ codes "?b" → ⊥) → (bs ≡ codes "true" → ⊥) → (bs ≡ codes "false" → ⊥) → read_value bs ≡ as_integer (read_signed bs)
 read_other bs i b t f = rw (not_same bs _ i, not_same bs _ b, not_same bs _ t, not_same bs _ f)
+
+-- digits one by one, as the library's walk asks for them
+pub digits_all : (bs : List ℕ) → list_all is_ascii_digit bs ≡ all_ascii_digits bs
+digits_all [] = refl
+digits_all (b ∷ bs) = ap (λ (r : Bool). is_ascii_digit b && r) (digits_all bs)

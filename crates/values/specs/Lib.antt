@@ -1,3 +1,4 @@
+pub mod Few
 pub mod Kinds
 pub mod Values
 pub mod Ops

@@ -2,6 +2,7 @@
 #![tactic(auto)]
 
 pub mod facts;
+pub mod few;
 pub mod kind;
 pub mod op;
 pub mod row;

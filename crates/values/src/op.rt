@@ -1,11 +1,13 @@
 // The operations with two parts.
 ghost use Rattle.std.specs.Prelude.{◌≡◌, Some};
+ghost use Rattle.std.specs.Result.{result_ok};
 ghost use Rattle.values.specs.Ops.{part_kind, gives, apply, op_name, op_of_name};
 ghost use Rattle.values.specs.Values.{meaning, kind_of};
 
 use crate::kind::Kind;
 use crate::value::Value;
 use std::fmt;
+use std::str::FromStr;
 
 #[derive(Clone, Copy, PartialEq, Eq, Debug)]
 pub enum Op {
@@ -72,21 +74,28 @@ impl Op {
             Op::Or => "OR",
         }
     }
+}
 
-    // The operation that a text names, if any.
-    pub fn of_name(text: &str) -> Option<Op>
-        ensures { result ≡ op_of_name text.now }
-    {
+// A text that names no operation.
+#[derive(Clone, Copy, PartialEq, Eq, Debug)]
+pub struct NoOp;
+
+impl FromStr for Op {
+    type Err = NoOp;
+
+    ghost from_str_gives = { λ bs r. result_ok r ≡ op_of_name bs };
+
+    fn from_str(text: &str) -> Result<Op, NoOp> {
         match text {
-            "ADD" => Some(Op::Add),
-            "SUB" => Some(Op::Sub),
-            "MUL" => Some(Op::Mul),
-            "DIV" => Some(Op::Div),
-            "LESS" => Some(Op::Less),
-            "SAME" => Some(Op::Same),
-            "AND" => Some(Op::And),
-            "OR" => Some(Op::Or),
-            _ => None,
+            "ADD" => Ok(Op::Add),
+            "SUB" => Ok(Op::Sub),
+            "MUL" => Ok(Op::Mul),
+            "DIV" => Ok(Op::Div),
+            "LESS" => Ok(Op::Less),
+            "SAME" => Ok(Op::Same),
+            "AND" => Ok(Op::And),
+            "OR" => Ok(Op::Or),
+            _ => Err(NoOp),
         }
     }
 }

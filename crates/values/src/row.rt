@@ -1,4 +1,4 @@
-// The plain form in which a value lies in lists, tables and lent memory.
+// The plain form in which a value lies in lists, tables and lent memory: numbers, which are checked where they are read.
 ghost use Rattle.std.specs.Prelude.{◌≡◌, true, false};
 ghost use Rattle.values.specs.Rows.{valid_unknown, valid_truth, valid, row_kind, row_of, value_of_row, stored};
 ghost use Rattle.values.specs.Values.{meaning, unknown_of};
@@ -12,6 +12,13 @@ pub struct Row {
     pub known: u8,
     pub number: i32,
 }
+
+// The row of the unknown Integer.
+pub const UNKNOWN: Row = Row {
+    kind: 1,
+    known: 0,
+    number: 0,
+};
 
 impl Row {
     // Whether it is the row of an unknown value, its kind aside.
@@ -32,10 +39,10 @@ impl Row {
     pub fn valid(&self) -> bool
         ensures { result ≡ valid self.now }
     {
-        match self.kind {
-            1 => self.valid_unknown() || self.known == 1,
-            2 => self.valid_unknown() || self.valid_truth(),
-            _ => false,
+        match Kind::try_from(self.kind) {
+            Ok(Kind::Integer) => self.valid_unknown() || self.known == 1,
+            Ok(Kind::Boolean) => self.valid_unknown() || self.valid_truth(),
+            Err(_) => false,
         }
     }
 
@@ -43,11 +50,7 @@ impl Row {
     fn value_kind(&self) -> Kind
         ensures { result ≡ row_kind self.now }
     {
-        if self.kind == 2 {
-            Kind::Boolean
-        } else {
-            Kind::Integer
-        }
+        Kind::try_from(self.kind).unwrap_or(Kind::Integer)
     }
 
     // What a row that passes its check holds.
@@ -75,39 +78,21 @@ impl Row {
             Value::unknown(self.value_kind())
         }
     }
+}
 
-    // The row in which a value lies.
-    pub fn of(value: Value) -> Row
-        ensures exact { result ≡ row_of (meaning value) }
-        ensures sound { valid result ≡ true }
-        ensures back { value_of_row result ≡ meaning value }
-    {
-        let kind = value.kind().number();
-        match value {
-            Value::Integer(i) => match i.get() {
-                Some(number) => Row {
-                    kind,
-                    known: 1,
-                    number,
-                },
-                None => Row {
-                    kind,
-                    known: 0,
-                    number: 0,
-                },
-            },
-            Value::Boolean(b) => match b.get() {
-                Some(truth) => Row {
-                    kind,
-                    known: 1,
-                    number: i32::from(truth),
-                },
-                None => Row {
-                    kind,
-                    known: 0,
-                    number: 0,
-                },
-            },
+// The row in which a value lies.
+impl From<Value> for Row {
+    ghost from_gives = { λ v r. (r ≡ row_of (meaning v)) × (valid r ≡ true) × (value_of_row r ≡ meaning v) };
+
+    fn from(value: Value) -> Row {
+        let number = match value {
+            Value::Integer(i) => i.get(),
+            Value::Boolean(b) => b.get().map(i32::from),
+        };
+        Row {
+            kind: u8::from(value.kind()),
+            known: u8::from(number.is_some()),
+            number: number.unwrap_or(0),
         }
     }
 }

@@ -6,7 +6,7 @@ pub mod integers;
 pub mod texts;
 pub mod values;
 
-// A number from -2147483648 to 2147483647, or unknown.
+// A number from -2147483648 to 2147483647, or unknown. A flag and a number, and no Option: every unknown value stores 0.
 #[derive(Clone, Copy)]
 pub struct Integer {
     known: bool,
@@ -14,7 +14,8 @@ pub struct Integer {
     ghost zero: { known ≡ false → number ≡ pos 0 },
 }
 
-// True, false or unknown. False is stored as 0, so an unknown one stores false.
+// True, false or unknown, kept like an Integer. False is stored as 0, so an unknown one stores false.
+// One generic type for both would need a trait for the stored zero, for a few functions of a line each.
 #[derive(Clone, Copy)]
 pub struct Boolean {
     known: bool,

@@ -4,16 +4,14 @@
 use input::{Next, next_line};
 use shell::answer;
 
-mod check;
 mod eval;
-mod hex;
 mod input;
 mod serving;
 mod shell;
-mod show;
 
 fn run(rt: &HostRuntime) -> anyhow::Result<()> {
     let mut line = String::new(rt.alloc());
+    // a count, since a loop that waits on input has to be seen to end
     for _ in 0..u64::MAX {
         match next_line(rt, &mut line)? {
             Next::Line => answer(rt, line.as_str())?,

@@ -9,6 +9,7 @@ use records::step::Step;
 use rota::choice::{Choice, Fair, parse_chooser};
 use rota::turns::Rota;
 use rota::words::parse_step;
+use std::ops::ControlFlow;
 
 // Prints a turn, and makes room for the steps of the next.
 fn end_turn<C: Chooser>(
@@ -23,26 +24,26 @@ fn end_turn<C: Chooser>(
     Ok(())
 }
 
-// One line of a rota: a step, the end of a turn, or the end of the rota, which is answered by true.
+// One line of a rota: a step, the end of a turn, or the end of the rota, which breaks off.
 fn take_line<C: Chooser>(
     rt: &HostRuntime,
     rota: &mut Rota<C>,
     closed: &mut Vec<Step>,
     line: &str,
-) -> anyhow::Result<bool> {
+) -> anyhow::Result<ControlFlow<()>> {
     let words: Vec<&str> = line.split_ascii_whitespace().collect(rt.alloc())?;
     match words.as_slice() {
         [] => end_turn(rt, rota, closed)?,
         ["end"] => {
             end_turn(rt, rota, closed)?;
-            return Ok(true);
+            return Ok(ControlFlow::Break(()));
         }
         _ => match parse_step(words.as_slice()) {
             Ok(step) => closed.push(step)?,
             Err(fault) => println!(rt; "wrong: {fault}")?,
         },
     }
-    Ok(false)
+    Ok(ControlFlow::Continue(()))
 }
 
 // Follows the lines of a rota to its end or the end of the input.
@@ -50,17 +51,16 @@ fn follow<C: Chooser + Drop>(rt: &HostRuntime, chooser: C) -> anyhow::Result<()>
     let mut rota = Rota::new(chooser);
     let mut closed: Vec<Step> = Vec::new(rt.alloc());
     let mut line = String::new(rt.alloc());
+    // a count, since a loop that waits on input has to be seen to end
     for _ in 0..u64::MAX {
-        let ended = match next_line(rt, &mut line)? {
-            Next::Line => take_line(rt, &mut rota, &mut closed, line.as_str())?,
-            Next::NotText => false,
-            Next::End => {
-                end_turn(rt, &mut rota, &mut closed)?;
-                true
+        match next_line(rt, &mut line)? {
+            Next::Line => {
+                if take_line(rt, &mut rota, &mut closed, line.as_str())?.is_break() {
+                    return Ok(());
+                }
             }
-        };
-        if ended {
-            return Ok(());
+            Next::NotText => {}
+            Next::End => return end_turn(rt, &mut rota, &mut closed),
         }
     }
     Ok(())
@@ -69,6 +69,7 @@ fn follow<C: Chooser + Drop>(rt: &HostRuntime, chooser: C) -> anyhow::Result<()>
 // Passes over the lines of a rota whose chooser is wrong.
 fn pass_over(rt: &HostRuntime) -> anyhow::Result<()> {
     let mut line = String::new(rt.alloc());
+    // a count, as above
     for _ in 0..u64::MAX {
         match next_line(rt, &mut line)? {
             Next::Line => {

@@ -1,8 +1,8 @@
 // The commands, by name.
-use crate::check::check;
 use crate::eval::eval;
 use crate::serving::rota_of;
-use crate::show::show_words;
+use inspect::check::check;
+use show::show::show_words;
 
 // What `help` prints.
 const HELP: [&str; 9] = [

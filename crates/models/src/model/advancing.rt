@@ -1,11 +1,11 @@
 // Which steps a model takes, and the model after one.
-ghost use Rattle.std.specs.Prelude.{◌≡◌, ◌≤◌, true, map, length, Some, None};
+ghost use Rattle.std.specs.Prelude.{◌≡◌, ◌≤◌, true, map, length, Some, None, Ok};
 ghost use Rattle.values.specs.Rows.{row_of};
 ghost use Rattle.processes.specs.Evaluation.{values_of};
 ghost use Rattle.records.specs.Records.{record_of};
 ghost use Rattle.steps.specs.Taking.{fits, refusal, exchanged, after_step};
 ghost use Rattle.tables.specs.Exchanging.{rows_in};
-ghost use Rattle.models.specs.Taken.{Taken};
+ghost use Rattle.models.specs.Taken.{refused, Taken};
 ghost use Rattle.models.specs.Views.{model_of};
 
 use super::Model;
@@ -23,27 +23,26 @@ impl Model {
         ensures short { result ≡ true → length values.now ≤ 4 }
     {
         if step.kind != OUTSIDE_RECEIVE || step.process >= self.count {
-            return values.len() == 0;
+            return values.is_empty();
         }
         match self.front(step.process, step.front) {
             Some(front) => takes(&front.action, self.table.rows_of(step.process), values),
-            None => values.len() == 0,
+            None => values.is_empty(),
         }
     }
 
-    // Why a step with these values is not taken; none where it is.
-    pub fn refusal(&self, step: &Step, values: &[Row]) -> Option<StepRefusal>
-        ensures exact { result ≡ refusal (model_of self.now) step.now (values_of values.now) }
-        ensures short { result ≡ None → length values.now ≤ 4 }
+    // Whether a step is taken with these values; else why not.
+    pub fn check(&self, step: &Step, values: &[Row]) -> Result<(), StepRefusal>
+        ensures exact { refused result ≡ refusal (model_of self.now) step.now (values_of values.now) }
+        ensures short { result ≡ Ok tt → length values.now ≤ 4 }
     {
         if !self.lists(step) {
-            return Some(StepRefusal::NotListed);
+            return Err(StepRefusal::NotListed);
         }
-        if self.fits(step, values) {
-            None
-        } else {
-            Some(StepRefusal::Values)
+        if !self.fits(step, values) {
+            return Err(StepRefusal::Values);
         }
+        Ok(())
     }
 
     // The values that a step exchanges.
@@ -66,7 +65,7 @@ impl Model {
 
 impl Model {
     // Takes a step that is not refused: who is in it goes on, and the answer is its journal record.
-    // For a caller that has asked for the refusal already.
+    // For a caller that has checked it already.
     pub fn perform(&mut self, step: &Step, values: &[Row]) -> Record
         requires free { refusal (model_of self.old) step.now (values_of values.now) ≡ None }
         requires short { length values.now ≤ 4 }
@@ -74,12 +73,12 @@ impl Model {
         ensures after { model_of self.new ≡ after_step (model_of self.old) step.now (values_of values.now) }
     {
         let exchanged = self.exchanged(step, values);
-        let Some(record) = Record::new(*step, exchanged.all()) else {
+        let Some(record) = Record::new(*step, exchanged.as_slice()) else {
             return unreachable();
         };
-        self.go_on(step.process, step.front, exchanged.all());
+        self.go_on(step.process, step.front, exchanged.as_slice());
         if step.kind == MEETING {
-            self.go_on(step.partner, step.partner_front, exchanged.all());
+            self.go_on(step.partner, step.partner_front, exchanged.as_slice());
         }
         record
     }
@@ -88,9 +87,7 @@ impl Model {
     pub fn advance(&mut self, step: &Step, values: &[Row]) -> Result<Record, StepRefusal>
         ensures { Taken (model_of self.old) (model_of self.new) step.now (values_of values.now) result }
     {
-        match self.refusal(step, values) {
-            Some(refusal) => Err(refusal),
-            None => Ok(self.perform(step, values)),
-        }
+        self.check(step, values)?;
+        Ok(self.perform(step, values))
     }
 }

@@ -1,5 +1,5 @@
 // The steps of a model.
-ghost use Rattle.std.specs.Prelude.{◌≡◌, ◌≤◌, if◌then◌else◌, nat_le};
+ghost use Rattle.std.specs.Prelude.{◌≡◌, is_ok, if◌then◌else◌, nat_le};
 ghost use Rattle.records.specs.Lists.{items, room_of};
 ghost use Rattle.steps.specs.Laws.{StepLaws};
 ghost use Rattle.steps.specs.Steps.{steps};
@@ -10,6 +10,7 @@ use listing::fill::put_steps;
 use listing::offer::{Offer, Role};
 use records::list::RecordList;
 use records::step::Step;
+use steps::refusal::NoRoom;
 use tables::offers::put_offers;
 
 // The most steps that a model can have.
@@ -20,9 +21,6 @@ const NO_OFFER: Offer = Offer {
     process: 0,
     front: 0,
     role: Role::Internal,
-    channel: 0,
-    message: 0,
-    kinds: [0; 4],
 };
 
 impl Model {
@@ -33,16 +31,17 @@ impl Model {
         &self.file[0..self.length]
     }
 
-    // Empties the table and writes all steps, in their order; no, and nothing altered, where it has room for fewer than 1,088.
-    pub fn list(&self, out: &mut RecordList<'_, Step>) -> bool
+    // Empties the table and writes all steps, in their order; a table with room for fewer than 1,088 is refused, and nothing altered.
+    pub fn list(&self, out: &mut RecordList<'_, Step>) -> Result<(), NoRoom>
         ensures room { room_of out.new ≡ room_of out.old }
-        ensures answer { result ≡ nat_le 1088 (room_of out.old) }
-        ensures list { items out.new ≡ (if result then steps (model_of self.now) else items out.old) }
+        ensures answer { is_ok result ≡ nat_le 1088 (room_of out.old) }
+        ensures list { items out.new ≡ (if is_ok result then steps (model_of self.now) else items out.old) }
         ensures laws { StepLaws }
     {
         if out.room() < MOST_STEPS {
-            return false;
+            return Err(NoRoom);
         }
+        // an array of the most offers that there are: the engine takes nothing from the heap
         let mut memory = [NO_OFFER; 64];
         let mut offers = RecordList::new(&mut memory);
         put_offers(
@@ -54,6 +53,6 @@ impl Model {
         );
         out.clear();
         put_steps(offers.all(), &self.arrivals, out);
-        true
+        Ok(())
     }
 }

@@ -39,6 +39,7 @@ fn fresh_entry(class: u8, fresh: &Fresh) -> Entry
 }
 
 // A fresh process for each PROC of the behaviour at `at`, in file order.
+// By number: `process_class` finds a PROC by it, and no list of them stands in memory.
 fn fresh_table(file: &[u8], at: usize, count: u8) -> Table
     requires { (s : Summary) × (check_file file.now ≡ Ok s) × (s.1 ≡ at) × (s.2 ≡ count) }
     ensures { (s : Summary) → check_file file.now ≡ Ok s → s.1 ≡ at → s.2 ≡ count → FreshTable file.now s result count }

@@ -1,11 +1,10 @@
 // Taking a step of a model.
-ghost use Rattle.std.specs.Prelude.{◌≡◌, ◌<◌, map};
+ghost use Rattle.std.specs.Prelude.{◌≡◌, ◌<◌};
 ghost use Rattle.commands.specs.ByteLists.{Bytes};
-ghost use Rattle.values.specs.Values.{kind_of};
 ghost use Rattle.processes.specs.Evaluation.{values_of};
 ghost use Rattle.processes.specs.Found.{Answers};
 ghost use Rattle.steps.specs.Steps.{steps};
-ghost use Rattle.steps.specs.Taking.{process_numbered, offered_front, same_step, is_in, with_moved};
+ghost use Rattle.steps.specs.Taking.{process_numbered, offered_front, is_in, with_moved};
 ghost use Rattle.models.specs.Takes.{FrontTakes};
 ghost use Rattle.models.specs.Views.{model_of, bytes_of};
 
@@ -17,29 +16,6 @@ use records::step::Step;
 use steps::refusal::StepRefusal;
 use tables::offers::front_of;
 use values::row::Row;
-
-fn same_step(a: &Step, b: &Step) -> bool
-    ensures { result ≡ same_step a.now b.now }
-{
-    a.kind == b.kind
-        && a.process == b.process
-        && a.front == b.front
-        && a.partner == b.partner
-        && a.partner_front == b.partner_front
-        && a.channel == b.channel
-        && a.message == b.message
-}
-
-fn is_in(step: &Step, list: &[Step]) -> bool
-    ensures { result ≡ is_in step.now list.now }
-{
-    for listed in list {
-        if same_step(step, listed) {
-            return true;
-        }
-    }
-    false
-}
 
 impl Model {
     // The front of a number of process `p`; none where there is no such process or front.
@@ -64,10 +40,12 @@ impl Model {
     pub(super) fn lists(&self, step: &Step) -> bool
         ensures { result ≡ is_in step.now (steps (model_of self.now)) }
     {
+        // an array of the most steps that there are: the engine takes nothing from the heap
         let mut memory = [Step::internal(0, 0); MOST_STEPS];
         let mut table = RecordList::new(&mut memory);
-        self.list(&mut table);
-        is_in(step, table.all())
+        // the table has room
+        let _listed = self.list(&mut table);
+        table.all().contains(step)
     }
 }
 

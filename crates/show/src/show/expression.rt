@@ -1,48 +1,27 @@
 // Expressions as indented text.
-use crate::show::begin;
-use commands::expression::{ExpressionCommand, Leaf, read_expression};
+use crate::show::Page;
+use commands::command::read;
+use commands::expression::ExpressionCommand;
+use files::file::LEVELS;
 
-fn show_leaf(rt: &HostRuntime, leaf: Leaf) -> anyhow::Result<()> {
-    match leaf {
-        Leaf::Int(number) => println!(rt; "INT {number}")?,
-        Leaf::Bool(0) => println!(rt; "BOOL false")?,
-        Leaf::Bool(1) => println!(rt; "BOOL true")?,
-        Leaf::Bool(_) => println!(rt; "BOOL ?b")?,
-        Leaf::Iunk => println!(rt; "IUNK")?,
-        Leaf::Var(variable) => println!(rt; "VAR {variable}")?,
-    }
-    Ok(())
-}
-
-// The expression at a place, at a level of indentation; answers the place behind it.
-pub fn show_expression(
-    rt: &HostRuntime,
-    file: &[u8],
-    at: usize,
-    left: u8,
-    level: u8,
-) -> anyhow::Result<usize> {
-    if left == 0 {
-        return Ok(at);
-    }
-    let Some(command) = read_expression(file, at) else {
-        return Ok(at);
-    };
-    begin(rt, at, level)?;
-    let deeper = level.saturating_add(1);
-    match command {
-        ExpressionCommand::Leaf(leaf) => {
-            show_leaf(rt, leaf)?;
-            Ok(at.saturating_add(leaf.size()))
+impl Page<'_> {
+    // The expression at a place, at a level of indentation; answers the place behind it.
+    pub fn show_expression(&self, at: usize, level: u8) -> anyhow::Result<usize> {
+        if level > LEVELS {
+            return Ok(at);
         }
-        ExpressionCommand::Binary(op, place) => {
-            println!(rt; "{op}")?;
-            let _first = show_expression(rt, file, at.saturating_add(3), left - 1, deeper)?;
-            show_expression(rt, file, place as usize, left - 1, deeper)
-        }
-        ExpressionCommand::Not => {
-            println!(rt; "NOT")?;
-            show_expression(rt, file, at.saturating_add(1), left - 1, deeper)
+        let Some(command) = read::<ExpressionCommand>(self.file, at) else {
+            return Ok(at);
+        };
+        self.begin(at, level)?;
+        println!(self.rt; "{command}")?;
+        match command {
+            ExpressionCommand::Leaf(leaf) => Ok(at + leaf.size()),
+            ExpressionCommand::Binary(_, place) => {
+                let _first = self.show_expression(at + 3, level + 1)?;
+                self.show_expression(place as usize, level + 1)
+            }
+            ExpressionCommand::Not => self.show_expression(at + 1, level + 1),
         }
     }
 }

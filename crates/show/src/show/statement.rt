@@ -1,98 +1,53 @@
 // Statements as indented text.
-use crate::show::begin;
-use crate::show::expression::show_expression;
-use commands::statement::{StatementCommand, read_statement};
+use crate::show::Page;
+use commands::command::read;
+use commands::statement::StatementCommand;
+use files::file::LEVELS;
 
-// Some expressions one after the other; answers the place behind them.
-fn show_values(
-    rt: &HostRuntime,
-    file: &[u8],
-    start: usize,
-    count: u8,
-    left: u8,
-    level: u8,
-) -> anyhow::Result<usize> {
-    let mut at = start;
-    for _ in 0..count {
-        at = show_expression(rt, file, at, left, level)?;
+impl Page<'_> {
+    // Some expressions one after the other.
+    fn show_values(&self, start: usize, count: u8, level: u8) -> anyhow::Result<()> {
+        let mut at = start;
+        // an expression begins where the one before it ends, so there is only their number to go over
+        for _ in 0..count {
+            at = self.show_expression(at, level)?;
+        }
+        Ok(())
     }
-    Ok(at)
-}
 
-fn show_receive(
-    rt: &HostRuntime,
-    channel: u8,
-    message: u8,
-    count: u8,
-    variables: &[u8],
-) -> anyhow::Result<()> {
-    print!(rt; "RECV channel {channel} message {message} into")?;
-    for variable in variables.iter().take(count as usize) {
-        print!(rt; " {variable}")?;
-    }
-    println!(rt; "")?;
-    Ok(())
-}
-
-// The line of a command, without its parts.
-fn show_command(rt: &HostRuntime, command: StatementCommand) -> anyhow::Result<()> {
-    match command {
-        StatementCommand::Skip => println!(rt; "SKIP")?,
-        StatementCommand::Set(variable) => println!(rt; "SET {variable}")?,
-        StatementCommand::Send(channel, message, _count) => {
-            println!(rt; "SEND channel {channel} message {message}")?
+    // The statement at a place, at a level of indentation.
+    pub fn show_statement(&self, at: usize, level: u8) -> anyhow::Result<()> {
+        if level > LEVELS {
+            return Ok(());
         }
-        StatementCommand::Recv(channel, message, count, variables) => {
-            show_receive(rt, channel, message, count, &variables)?
-        }
-        StatementCommand::Seq(_place) => println!(rt; "SEQ")?,
-        StatementCommand::Sel(_place) => println!(rt; "SEL")?,
-        StatementCommand::Guard(_place) => println!(rt; "GUARD")?,
-        StatementCommand::If(_place, _other) => println!(rt; "IF")?,
-        StatementCommand::Do(_place) => println!(rt; "DO")?,
-    }
-    Ok(())
-}
-
-// The statement at a place, at a level of indentation; answers the place behind it.
-pub fn show_statement(
-    rt: &HostRuntime,
-    file: &[u8],
-    at: usize,
-    left: u8,
-    level: u8,
-) -> anyhow::Result<usize> {
-    if left == 0 {
-        return Ok(at);
-    }
-    let Some(command) = read_statement(file, at) else {
-        return Ok(at);
-    };
-    begin(rt, at, level)?;
-    show_command(rt, command)?;
-    let deeper = level.saturating_add(1);
-    let third = at.saturating_add(3);
-    match command {
-        StatementCommand::Skip => Ok(at.saturating_add(1)),
-        StatementCommand::Set(_variable) => {
-            show_expression(rt, file, at.saturating_add(2), left - 1, deeper)
-        }
-        StatementCommand::Send(_channel, _message, count) => {
-            show_values(rt, file, at.saturating_add(4), count, left - 1, deeper)
-        }
-        StatementCommand::Recv(_channel, _message, _count, _variables) => Ok(at.saturating_add(8)),
-        StatementCommand::Seq(place) | StatementCommand::Sel(place) => {
-            let _first = show_statement(rt, file, third, left - 1, deeper)?;
-            show_statement(rt, file, place as usize, left - 1, deeper)
-        }
-        StatementCommand::Guard(place) | StatementCommand::Do(place) => {
-            let _test = show_expression(rt, file, third, left - 1, deeper)?;
-            show_statement(rt, file, place as usize, left - 1, deeper)
-        }
-        StatementCommand::If(place, other) => {
-            let _test = show_expression(rt, file, at.saturating_add(5), left - 1, deeper)?;
-            let _then = show_statement(rt, file, place as usize, left - 1, deeper)?;
-            show_statement(rt, file, other as usize, left - 1, deeper)
+        let Some(command) = read::<StatementCommand>(self.file, at) else {
+            return Ok(());
+        };
+        self.begin(at, level)?;
+        println!(self.rt; "{command}")?;
+        match command {
+            StatementCommand::Skip => Ok(()),
+            StatementCommand::Recv(_channel, _message, _count, _variables) => Ok(()),
+            StatementCommand::Set(_variable) => {
+                let _end = self.show_expression(at + 2, level + 1)?;
+                Ok(())
+            }
+            StatementCommand::Send(_channel, _message, count) => {
+                self.show_values(at + 4, count, level + 1)
+            }
+            StatementCommand::Seq(place) | StatementCommand::Sel(place) => {
+                self.show_statement(at + 3, level + 1)?;
+                self.show_statement(place as usize, level + 1)
+            }
+            StatementCommand::Guard(place) | StatementCommand::Do(place) => {
+                let _end = self.show_expression(at + 3, level + 1)?;
+                self.show_statement(place as usize, level + 1)
+            }
+            StatementCommand::If(place, other) => {
+                let _end = self.show_expression(at + 5, level + 1)?;
+                self.show_statement(place as usize, level + 1)?;
+                self.show_statement(other as usize, level + 1)
+            }
         }
     }
 }

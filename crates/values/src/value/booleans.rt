@@ -4,6 +4,18 @@ ghost use Rattle.values.specs.Values.{truth_of, and, or, negate, both, same_trut
 
 use crate::value::Boolean;
 
+// Whether it is true, or unknown where that is not said.
+impl From<Option<bool>> for Boolean {
+    ghost from_gives = { λ t b. truth_of b ≡ t };
+
+    fn from(truth: Option<bool>) -> Boolean {
+        match truth {
+            Some(t) => Boolean::new(t),
+            None => Boolean::unknown(),
+        }
+    }
+}
+
 impl Boolean {
     pub fn unknown() -> Boolean
         ensures { truth_of result ≡ None }
@@ -24,7 +36,7 @@ impl Boolean {
     pub fn get(self) -> Option<bool>
         ensures { result ≡ truth_of self }
     {
-        if self.known { Some(self.truth) } else { None }
+        self.known.then_some(self.truth)
     }
 
     pub fn and(self, other: Boolean) -> Boolean
@@ -37,6 +49,7 @@ impl Boolean {
         }
     }
 
+    // Its own table, as its definition: by `and` and `not` it would take three calls to read.
     pub fn or(self, other: Boolean) -> Boolean
         ensures { truth_of result ≡ or (truth_of self) (truth_of other) }
     {
@@ -50,18 +63,12 @@ impl Boolean {
     pub fn not(self) -> Boolean
         ensures { truth_of result ≡ negate (truth_of self) }
     {
-        match self.get() {
-            Some(b) => Boolean::new(!b),
-            None => Boolean::unknown(),
-        }
+        Boolean::from(self.get().map(|b| !b))
     }
 
     pub fn same(self, other: Boolean) -> Boolean
         ensures { truth_of result ≡ both (λ a b. Some (same_truths a b)) (truth_of self) (truth_of other) }
     {
-        match (self.get(), other.get()) {
-            (Some(a), Some(b)) => Boolean::new(a == b),
-            _ => Boolean::unknown(),
-        }
+        Boolean::from(self.get().zip(other.get()).map(|(a, b)| a == b))
     }
 }

@@ -1,7 +1,6 @@
 // Values as text: written, and read again.
 ghost use Rattle.std.specs.Prelude.{◌≡◌, Some};
 ghost use Rattle.std.specs.Str.Parse.{without_leading_sign};
-ghost use Rattle.std.specs.Str.{all_ascii_digits};
 ghost use Rattle.values.specs.Values.{number_of, truth_of, meaning};
 ghost use Rattle.values.specs.Texts.{number_text, truth_text, text_of, is_numeral, read_signed, read_value, meaning_read};
 
@@ -42,17 +41,6 @@ impl fmt::Display for Value {
     }
 }
 
-fn all_digits(bytes: &[u8]) -> bool
-    ensures { result ≡ all_ascii_digits bytes.now }
-{
-    for b in bytes {
-        if !b.is_ascii_digit() {
-            return false;
-        }
-    }
-    true
-}
-
 fn after_sign(bytes: &[u8]) -> &[u8]
     ensures { result.now ≡ without_leading_sign bytes.now }
 {
@@ -68,7 +56,7 @@ fn is_numeral(bytes: &[u8]) -> bool
     ensures { result ≡ is_numeral bytes.now }
 {
     let digits = after_sign(bytes);
-    !digits.is_empty() && all_digits(digits)
+    !digits.is_empty() && digits.iter().all(|b| b.is_ascii_digit())
 }
 
 // The number that a text writes.
@@ -77,13 +65,8 @@ fn read_signed(text: &str) -> Result<i32, TextFault>
 {
     match text.parse::<i32>() {
         Ok(number) => Ok(number),
-        Err(_) => {
-            if is_numeral(text.as_bytes()) {
-                Err(TextFault::OutOfRange)
-            } else {
-                Err(TextFault::NotAValue)
-            }
-        }
+        Err(_) if is_numeral(text.as_bytes()) => Err(TextFault::OutOfRange),
+        Err(_) => Err(TextFault::NotAValue),
     }
 }
 
@@ -98,10 +81,7 @@ impl FromStr for Value {
             "?b" => Ok(Value::Boolean(Boolean::unknown())),
             "true" => Ok(Value::Boolean(Boolean::new(true))),
             "false" => Ok(Value::Boolean(Boolean::new(false))),
-            _ => match read_signed(text) {
-                Ok(number) => Ok(Value::Integer(Integer::new(number))),
-                Err(fault) => Err(fault),
-            },
+            _ => read_signed(text).map(|number| Value::Integer(Integer::new(number))),
         }
     }
 }

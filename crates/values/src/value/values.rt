@@ -25,7 +25,7 @@ impl Value {
         }
     }
 
-    // The Integer; unknown at a Boolean.
+    // The Integer; unknown at a Boolean. It and `boolean` each name their own variant.
     pub fn integer(self) -> Integer
         ensures { number_of result ≡ as_number (meaning self) }
     {
@@ -49,15 +49,10 @@ impl Value {
     pub fn same(self, other: Value) -> Boolean
         ensures { truth_of result ≡ same (meaning self) (meaning other) }
     {
-        match self {
-            Value::Integer(a) => match other {
-                Value::Integer(b) => a.same(b),
-                Value::Boolean(_) => Boolean::unknown(),
-            },
-            Value::Boolean(a) => match other {
-                Value::Integer(_) => Boolean::unknown(),
-                Value::Boolean(b) => a.same(b),
-            },
+        match (self, other) {
+            (Value::Integer(a), Value::Integer(b)) => a.same(b),
+            (Value::Boolean(a), Value::Boolean(b)) => a.same(b),
+            _ => Boolean::unknown(),
         }
     }
 }

@@ -1,26 +1,22 @@
-use Rattle.std.proofs.Common.{get_or, ap, ◌∙◌, arith}
+use Rattle.std.proofs.Common.{rules, tests, ℕ, ◌+◌, length, ne_eqb, sym, ◌∙◌}
+use Rattle.std.proofs.lemmas.Iterator.{YieldsList-from_slice}
+use Rattle.std.proofs.lemmas.Iterator.Consumers.{YieldsList-from_enumerate}
+use Rattle.std.proofs.lemmas.Iterator.Search.{all_from_yields_List}
+use Rattle.values.specs.declared.kind.Kind.{Kind}
 use Rattle.values.specs.Kinds.{same_kind}
-use Rattle.values.specs.declared.kind.Kind.TheVariants.{Integer}
-use Rattle.files.proofs.Declaring.{other_length, kinds_step, all_same}
-use Rattle.files.proofs.Scans.{and_stops, and_goes}
+use Rattle.files.specs.Heads.{byte, kind_at}
+use Rattle.files.proofs.Declaring.{other_length, kinds_along}
 use Rattle.files.proofs.declarations.same_kinds.Goals as goal
 
-pub returns-then-kinds-count : goal.returns-then-kinds-count
-returns-then-kinds-count c = other_length _ _ _ _ c.if-kinds-count.true
-
-pub returns-then-not-same_kind : goal.returns-then-not-same_kind
-returns-then-not-same_kind c =
+pub returns-then-kinds-byte_at : goal.returns-then-kinds-byte_at
+returns-then-kinds-byte_at c =
     let a = c.args in
-    and_stops _ _ _ _ c.loop-i.invariant (kinds_step a.kinds.now a.count a.file.now a.at c.loop-i.i Integer (omega arith) c.if-kinds-count.false)
-    (c.if-not-same_kind.ensures ∙ ap (same_kind (get_or a.kinds.now c.loop-i.i Integer)) c.kind_at.ensures)
+    all_from_yields_List (λ (p : ℕ × Kind). same_kind p.1 (kind_at a.bytes.now (4 + p.0))) _ _ _ c.all.ensures.ran
+    (YieldsList-from_enumerate (YieldsList-from_slice a.kinds.now cc) (cc))
+    (λ x b q k. search (rules, tests))
+    ∙ kinds_along a.kinds.now (byte a.bytes.now 3) a.bytes.now 4 0 (c.if-kinds-byte_at.true ∙ c.byte_at.ensures)
 
-pub loop-i-preserved : goal.loop-i-preserved
-loop-i-preserved c =
+pub returns-else-kinds-byte_at : goal.returns-else-kinds-byte_at
+returns-else-kinds-byte_at c =
     let a = c.args in
-    and_goes _ _ _ _ c.loop-i.invariant (kinds_step a.kinds.now a.count a.file.now a.at c.loop-i.i Integer (omega arith) c.if-kinds-count.false)
-    (c.if-not-same_kind.ensures ∙ ap (same_kind (get_or a.kinds.now c.loop-i.i Integer)) c.kind_at.ensures)
-
-pub returns : goal.returns
-returns c =
-    let a = c.args in
-    all_same a.kinds.now a.count a.file.now a.at c.loop-i.i c.loop-i-test.false c.if-kinds-count.false c.loop-i.invariant
+    ne_eqb (length a.kinds.now) c.byte_at.result c.if-kinds-byte_at.false ∙ other_length a.kinds.now (byte a.bytes.now 3) a.bytes.now 4 (λ e. c.if-kinds-byte_at.false (e ∙ sym c.byte_at.ensures))

@@ -1,15 +1,23 @@
-use Rattle.records.proofs.Filling.{fill_none, fill_fits, fill_more, fill_all}
-use Rattle.listing.specs.Offers.{meetings}
+use Rattle.std.proofs.Common.{get_or}
+use Rattle.records.proofs.Filling.{fill_fits, fill_more}
+use Rattle.listing.specs.declared.offer.Offer.{Offer}
+use Rattle.listing.specs.declared.offer.Role.TheVariants.{Internal}
+use Rattle.listing.specs.Offers.{meeting_step, meetings}
 use Rattle.listing.proofs.fill.put_meetings.Goals as goal
 
-pub loop-send-init : goal.loop-send-init
-loop-send-init c = fill_none _ _ _
+-- what stands behind the offers' end
+abbrev no_offer : Offer
+no_offer = record { process = 0; front = 0; role = Internal }
 
-pub put_meetings_of-requires : goal.put_meetings_of-requires
-put_meetings_of-requires c = fill_fits (meetings c.args.arrivals.now.channels c.args.offers.now) _ _ _ _ _ c.loop-send.invariant c.loop-send-test.true c.requires
+pub put_each-requires-clause-room : goal.put_each-requires-clause-room
+unfolding meetings
+put_each-requires-clause-room c =
+    let room = fill_fits (meetings c.args.arrivals.now.channels c.args.offers.now) _ _ _ no_offer _ c.loop-send.invariant c.loop-send-test.true c.requires in
+    (meeting_step c.args.arrivals.now.channels (get_or c.args.offers.now c.loop-send.send-index no_offer), λ o s e. e, room)
 
 pub loop-send-preserved : goal.loop-send-preserved
-loop-send-preserved c = fill_more (meetings c.args.arrivals.now.channels c.args.offers.now) _ _ _ _ _ _ c.loop-send.invariant c.loop-send-test.true c.put_meetings_of.ensures
-
-pub returns : goal.returns
-returns c = fill_all (meetings c.args.arrivals.now.channels c.args.offers.now) _ _ _ _ c.loop-send.invariant c.loop-send-test.false
+unfolding meetings
+loop-send-preserved c =
+    let room = fill_fits (meetings c.args.arrivals.now.channels c.args.offers.now) _ _ _ no_offer _ c.loop-send.invariant c.loop-send-test.true c.requires in
+    let grown = c.put_each.ensures (meeting_step c.args.arrivals.now.channels (get_or c.args.offers.now c.loop-send.send-index no_offer)) (λ o s e. e) room in
+    fill_more (meetings c.args.arrivals.now.channels c.args.offers.now) _ _ _ _ _ _ c.loop-send.invariant c.loop-send-test.true grown

@@ -1,4 +1,4 @@
-use Rattle.std.proofs.Common.{ap, arith}
+use Rattle.std.proofs.Common.{ap, inl, inr, arith}
 use Rattle.commands.specs.Statements.{command_size}
 use Rattle.admission.specs.Conditions.{most_fronts}
 use Rattle.parts.proofs.Walking.{stmt_here, no_stmt}
@@ -29,23 +29,19 @@ most_fronts-requires-in-Guard t c =
 
 pub returns-in-Skip : goal.returns-in-Skip
 returns-in-Skip t c u s =
-    let p = stmt_here c.args.file.now c.args.at u c.in-Skip.is c.in-Some.ensures.exact s in
-    omega (arith, ap most_fronts p)
-
-pub returns-in-Set : goal.returns-in-Set
-returns-in-Set t c u s =
-    let p = stmt_here c.args.file.now c.args.at u c.in-Set.is c.in-Some.ensures.exact s in
-    omega (arith, ap most_fronts p.1)
-
-pub returns-in-Send : goal.returns-in-Send
-returns-in-Send t c u s =
-    let p = stmt_here c.args.file.now c.args.at u c.in-Send.is c.in-Some.ensures.exact s in
-    omega (arith, ap most_fronts p.1)
-
-pub returns-in-Recv : goal.returns-in-Recv
-returns-in-Recv t c u s =
-    let p = stmt_here c.args.file.now c.args.at u c.in-Recv.is c.in-Some.ensures.exact s in
-    omega (arith, ap most_fronts p.1)
+    let f = c.args.file.now in
+    let at = c.args.at in
+    let read = c.in-Some.ensures.exact in
+    elim c.in-Skip.is [
+      | inl e ↦ omega (arith, ap most_fronts (stmt_here f at u e read s))
+      | inr r ↦ elim r [
+        | inl e ↦ omega (arith, ap most_fronts (stmt_here f at u e.1 read s).1)
+        | inr q ↦ elim q [
+          | inl e ↦ omega (arith, ap most_fronts (stmt_here f at u e.3 read s).1)
+          | inr e ↦ omega (arith, ap most_fronts (stmt_here f at u e.4 read s).1)
+        ]
+      ]
+    ]
 
 pub returns-in-Seq : goal.returns-in-Seq
 returns-in-Seq t c u s =
@@ -64,13 +60,13 @@ returns-in-Guard t c u s =
 
 pub returns-in-If : goal.returns-in-If
 returns-in-If t c u s =
-    let p = stmt_here c.args.file.now c.args.at u c.in-If.is c.in-Some.ensures.exact s in
-    omega (arith, ap most_fronts p.3)
-
-pub returns-in-Do : goal.returns-in-Do
-returns-in-Do t c u s =
-    let p = stmt_here c.args.file.now c.args.at u c.in-Do.is c.in-Some.ensures.exact s in
-    omega (arith, ap most_fronts p.2)
+    let f = c.args.file.now in
+    let at = c.args.at in
+    let read = c.in-Some.ensures.exact in
+    elim c.in-If.is [
+      | inl e ↦ omega (arith, ap most_fronts (stmt_here f at u e.2 read s).3)
+      | inr e ↦ omega (arith, ap most_fronts (stmt_here f at u e.1 read s).2)
+    ]
 
 pub overflow_add-result : goal.overflow_add-result
 overflow_add-result t c =

@@ -1,11 +1,11 @@
-use Rattle.std.proofs.Common.{◌+◌, ◌∷◌, sym, refl, ap, ◌∙◌, subst, arith}
+use Rattle.std.proofs.Common.{◌+◌, ◌∷◌, length, sym, refl, ap, ◌∙◌, subst, arith}
 use Rattle.commands.specs.Statements.{command_size}
 use Rattle.admission.specs.Conditions.{most_fronts}
 use Rattle.parts.proofs.Walking.{stmt_here, no_stmt}
 use Rattle.processes.specs.Fronts.{is_true}
 use Rattle.processes.specs.Found.{Ready}
 use Rattle.processes.proofs.Kept.{few_fronts, some_deep}
-use Rattle.processes.proofs.Statements.{received, has_room, one_longer, sequence_ready, first_ready, second_ready, guard_ready, skip_found, set_found, send_found, receive_found, sequence_found, first_found, second_found, open_found, closed_found, branch_found, loop_found}
+use Rattle.processes.proofs.Statements.{received, has_room, sequence_ready, first_ready, second_ready, guard_ready, skip_found, set_found, send_found, receive_found, sequence_found, first_found, second_found, open_found, closed_found, branch_found, loop_found}
 use Rattle.processes.proofs.finding.+front_at.Goals as goal
 
 pub unreachable-requires : goal.unreachable-requires
@@ -126,7 +126,7 @@ with-requires-in-Do t c =
     let h0 = c.requires.2 in
     let p = stmt_here f c.args.at c.requires.0 c.in-Do.is c.in-Some.ensures.exact h0.here in
     let h = subst (λ u. Ready f c.args.at c.args.rest u c.requires.1) p.2 h0 in
-    omega (arith, has_room f _ _ _ _ h (omega (arith, some_deep p.1)), one_longer _ _ _ c.with-again.ensures)
+    omega (arith, has_room f _ _ _ _ h (omega (arith, some_deep p.1)), ap length c.with-again.ensures)
 
 pub returns-in-Skip : goal.returns-in-Skip
 returns-in-Skip t c s ss k h =
@@ -138,7 +138,7 @@ pub returns-in-Set : goal.returns-in-Set
 returns-in-Set t c s ss k h =
     let f = c.args.file.now in
     let p = stmt_here f c.args.at s c.in-Set.is c.in-Some.ensures.exact h.here in
-    set_found f _ _ ss _ _ _ s k _ _ p.0 c.one_front-in-Set.ensures p.1 (c.of-row.ensures.back ∙ c.evaluate.ensures p.0 p.2) h
+    set_found f _ _ ss _ _ _ s k _ _ p.0 c.one_front-in-Set.ensures p.1 (c.from-row.ensures.2 ∙ c.evaluate.ensures p.0 p.2) h
 
 pub returns-in-Send : goal.returns-in-Send
 returns-in-Send t c s ss k h =
@@ -150,7 +150,7 @@ pub returns-in-Recv : goal.returns-in-Recv
 returns-in-Recv t c s ss k h =
     let f = c.args.file.now in
     let p = stmt_here f c.args.at s c.in-Recv.is c.in-Some.ensures.exact h.here in
-    receive_found f _ _ ss _ _ _ s k _ _ _ p.0 c.one_front-in-Recv.ensures p.1 (received _ _ p.0 p.2 p.3) h
+    receive_found f _ _ ss _ _ _ s k _ _ _ p.0 c.one_front-in-Recv.ensures p.1 (c.first-targets.ensures ∙ received _ _ p.0 p.2 p.3) h
 
 pub returns-in-Seq : goal.returns-in-Seq
 returns-in-Seq t c s ss k h =
@@ -198,4 +198,4 @@ pub returns-in-Do : goal.returns-in-Do
 returns-in-Do t c s ss k h =
     let f = c.args.file.now in
     let p = stmt_here f c.args.at s c.in-Do.is c.in-Some.ensures.exact h.here in
-    loop_found f _ _ ss _ _ _ s k _ p.0 p.1 _ _ _ c.two_fronts-in-Do.ensures (c.evaluate-condition-in-Do.ensures p.0 p.4) p.2 c.with-again.ensures c.with-in-Do.ensures p.5 h
+    loop_found f _ _ ss _ _ _ s k _ p.0 p.1 _ c.with-again.result _ c.two_fronts-in-Do.ensures (c.evaluate-condition-in-Do.ensures p.0 p.4) p.2 c.with-again.ensures c.with-in-Do.ensures p.5 h

@@ -1,5 +1,4 @@
-use Rattle.std.proofs.Common.{◌+◌, drop, sym, ap, ◌∙◌}
-use Rattle.std.proofs.lemmas.List.{at_drop_all}
+use Rattle.std.proofs.Common.{◌+◌, drop, ap, ◌∙◌}
 use Rattle.processes.specs.Classes.{stored}
 use Rattle.processes.specs.Evaluation.{values_of}
 use Rattle.tables.proofs.Storing.{stored_one, stored_out}
@@ -15,8 +14,3 @@ loop-i-preserved c =
       | then-i-got w ↦ ap (λ rows. stored (values_of rows) (drop (i + 1) ws) (values_of (drop (i + 1) got))) (w.rows-is ∙ w.put_row.ensures) ∙ stored_one c.loop-i.rows ws got i c.loop-i-test.true w.if-i-got.true _ ∙ c.loop-i.invariant
       | else-i-got w ↦ ap (λ rows. stored (values_of rows) (drop (i + 1) ws) (values_of (drop (i + 1) got))) w.rows-is ∙ stored_out c.loop-i.rows ws got i w.if-i-got.false ∙ c.loop-i.invariant
     ]
-
-pub returns : goal.returns
-returns c =
-    let i = c.loop-i.i in
-    sym (at_drop_all (λ ws. stored (values_of c.loop-i.rows) ws (values_of (drop i c.args.got.now))) c.args.targets.now i c.loop-i-test.false) ∙ c.loop-i.invariant

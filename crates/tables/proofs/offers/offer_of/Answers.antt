@@ -15,5 +15,5 @@ returns c =
     let one = view f c.args.entry.now c.args.rows.now in
     let a = answered f c.in_ok-front.front (offered_front one c.args.number) c.in_ok-front.ensures.front in
     let n = numbered_so c.args.number (process_fronts vs (left_in f c.args.entry.now.left)) a.0 a.1 in
-    ap (λ o. Some o) (c.seen_action.ensures ∙ (λ i. seen c.args.process (sym n i) vs (a.2.does i)))
+    ap (λ o. Some o) (sym (c.seen_role.ensures c.args.process c.args.number) ∙ (λ i. seen c.args.process (sym n i) vs (a.2.does i)))
     ∙ sym (ap (seen_front c.args.process one) a.1)

@@ -4,7 +4,7 @@ use Rattle.std.proofs.lemmas.List.FromFn.{length-range_with_len}
 use Rattle.admission.proofs.Deciding.{bytes_from}
 use Rattle.processes.specs.Fronts.{Front, process_fronts}
 use Rattle.records.specs.Lists.{optional, Room, Grown}
-use Rattle.records.proofs.Filling.{fill_none, count_fits, count_more, count_all, optional_few}
+use Rattle.records.proofs.Filling.{count_fits, count_more, count_all, optional_few}
 use Rattle.listing.specs.declared.offer.Offer.{Offer}
 use Rattle.listing.specs.Offers.{offer_of}
 use Rattle.steps.specs.Models.{Process}
@@ -21,9 +21,6 @@ made p one n = optional (offer_numbered p one n)
 
 fits : (p : ℕ) (one : Process) → length (flat_map (made p one) (range_with_len 0 8)) ≤ 8
 fits p one = omega (arith, optional_few (offer_numbered p one) (range_with_len 0 8), length-range_with_len 0 8)
-
-pub loop-number-init : goal.loop-number-init
-loop-number-init c = fill_none _ _ _
 
 pub append_some-requires : goal.append_some-requires
 append_some-requires c =

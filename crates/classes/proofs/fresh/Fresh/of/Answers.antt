@@ -1,7 +1,7 @@
 use Rattle.std.proofs.Common.{arith}
 use Rattle.admission.proofs.Deciding.{bytes_from}
 use Rattle.classes.proofs.Heading.{variables_many}
-use Rattle.classes.proofs.Starting.{none_stored, fresh_made}
+use Rattle.classes.proofs.Starting.{fresh_made}
 use Rattle.classes.proofs.Walking.{class_kept, file_short}
 use Rattle.classes.proofs.fresh.Fresh.of.Goals as goal
 
@@ -12,9 +12,6 @@ start_rows-requires c =
     let s = c.scope_of.ensures d c.requires.1 in
     let kept = class_kept f _ d (bytes_from f (λ i. omega (arith, (c.type_inv.file i).fits))) c.requires.1 in
     (omega (arith, variables_many _ _ d s, kept.variables_few), s.within.variables_within)
-
-pub with-requires : goal.with-requires
-with-requires c = omega (arith, none_stored c.new.result.count c.new.result.places c.new.ensures)
 
 pub returns : goal.returns
 returns c d h =

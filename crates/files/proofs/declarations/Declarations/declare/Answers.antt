@@ -1,17 +1,19 @@
-use Rattle.std.proofs.Common.{arith}
-use Rattle.files.specs.Statements.{exchange}
-use Rattle.files.proofs.Declaring.{declared_step}
-use Rattle.files.proofs.Scans.{or_stops, or_goes}
+use Rattle.std.proofs.Common.{rules, tests, ◌≡◌, ◌+◌, ◌-◌, ◌*◌, drop, ap, ◌∙◌, arith}
+use Rattle.std.proofs.lemmas.Iterator.{YieldsList-from_range}
+use Rattle.std.proofs.lemmas.Iterator.Search.{any_from_yields_List}
+use Rattle.files.specs.Exchanges.{exchange_of}
+use Rattle.files.specs.Heads.{declaration_at, declarations_at}
+use Rattle.files.specs.Statements.{same_declaration, declared}
+use Rattle.files.proofs.Declaring.{declared_along}
 use Rattle.files.proofs.declarations.Declarations.declare.Goals as goal
 
-pub returns-then-same_declaration : goal.returns-then-same_declaration
-returns-then-same_declaration c =
+pub returns : goal.returns
+returns c =
     let a = c.args in
-    let d = exchange a.receives a.channel a.message a.kinds.now in
-    or_stops _ _ _ _ c.loop-i.invariant (declared_step d a.self.count a.file.now a.self.at c.loop-i.i (omega arith)) c.if-same_declaration.ensures
-
-pub loop-i-preserved : goal.loop-i-preserved
-loop-i-preserved c =
-    let a = c.args in
-    let d = exchange a.receives a.channel a.message a.kinds.now in
-    or_goes _ _ _ _ c.loop-i.invariant (declared_step d a.self.count a.file.now a.self.at c.loop-i.i (omega arith)) c.if-same_declaration.ensures
+    let d = exchange_of a.exchange.now in
+    let all : a.self.count - 0 ≡ a.self.count = omega arith in
+    let start : a.self.at + 8 * 0 ≡ a.self.at = omega arith in
+    any_from_yields_List (λ i. same_declaration d (declaration_at (drop (a.self.at + 8 * i) a.file.now) 0)) _ _ _ c.any.ensures.ran
+    (YieldsList-from_range 0 a.self.count a.self.count (cc) all)
+    (λ x b q k. search (rules, tests))
+    ∙ declared_along d a.self.count a.file.now a.self.at 0 ∙ ap (λ m. declared d (declarations_at a.self.count a.file.now m)) start

@@ -19,10 +19,10 @@ returns-then-step-ne-OUTSIDE_RECEIVE c =
     let values = c.args.values.now in
     record {
       exact = elim c.then-step-ne-OUTSIDE_RECEIVE.branch [
-        | then-step-ne-OUTSIDE_RECEIVE-via-then-step-ne-OUTSIDE_RECEIVE w ↦ fits_other (model_of m) s values w.if-step-ne-OUTSIDE_RECEIVE.true
-        | then-step-ne-OUTSIDE_RECEIVE-via-else-step-ne-OUTSIDE_RECEIVE+then-step-self w ↦ fits_without (model_of m) s values (absent_front m s.process s.front w.if-step-self.true)
+        | then-step-ne-OUTSIDE_RECEIVE-via-then-step-ne-OUTSIDE_RECEIVE w ↦ c.is_empty.ensures ∙ fits_other (model_of m) s values w.if-step-ne-OUTSIDE_RECEIVE.true
+        | then-step-ne-OUTSIDE_RECEIVE-via-else-step-ne-OUTSIDE_RECEIVE+then-step-self w ↦ c.is_empty.ensures ∙ fits_without (model_of m) s values (absent_front m s.process s.front w.if-step-self.true)
       ];
-      short = no_values_few values;
+      short = λ h. no_values_few values (sym c.is_empty.ensures ∙ h);
     }
 
 pub returns-in-Some : goal.returns-in-Some
@@ -48,6 +48,6 @@ returns-in-None c =
     let s = c.args.step.now in
     let values = c.args.values.now in
     record {
-      exact = fits_without (model_of m) s values (unanswered (bytes_of m) _ c.in-None.ensures.front);
-      short = no_values_few values;
+      exact = c.is_empty-in-None.ensures ∙ fits_without (model_of m) s values (unanswered (bytes_of m) _ c.in-None.ensures.front);
+      short = λ h. no_values_few values (sym c.is_empty-in-None.ensures ∙ h);
     }

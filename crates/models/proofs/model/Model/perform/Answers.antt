@@ -29,7 +29,7 @@ go_on-requires c =
     let m = model_of c.args.self.now in
     let s = c.args.step.now in
     let given = values_of c.args.values.now in
-    let e = as_values _ _ _ c.all-2.ensures.are c.exchanged-exchanged.ensures in
+    let e = as_values _ _ _ c.as_slice-2.ensures.items c.exchanged-exchanged.ensures in
     subst (FrontTakes m s.process s.front) (sym e) (first_takes m s given c.requires.free)
 
 pub go_on-requires-then-step-eq-MEETING : goal.go_on-requires-then-step-eq-MEETING
@@ -37,10 +37,10 @@ go_on-requires-then-step-eq-MEETING c =
     let m = model_of c.args.self.now in
     let s = c.args.step.now in
     let given = values_of c.args.values.now in
-    let e = as_values _ _ _ c.all-2.ensures.are c.exchanged-exchanged.ensures in
-    let d = as_values _ _ _ c.all-then-step-eq-MEETING.ensures.are c.exchanged-exchanged.ensures in
+    let e = as_values _ _ _ c.as_slice-2.ensures.items c.exchanged-exchanged.ensures in
+    let d = as_values _ _ _ c.as_slice-then-step-eq-MEETING.ensures.items c.exchanged-exchanged.ensures in
     let moved : model_of c.go_on.new.self ≡ with_moved m s.process s.front (exchanged m s given) = c.go_on.ensures ∙ ap (with_moved m s.process s.front) e in
-    subst (λ x. FrontTakes x s.partner s.partner_front (values_of c.all-then-step-eq-MEETING.result.now)) (sym moved)
+    subst (λ x. FrontTakes x s.partner s.partner_front (values_of c.as_slice-then-step-eq-MEETING.result.now)) (sym moved)
     (subst (FrontTakes (with_moved m s.process s.front (exchanged m s given)) s.partner s.partner_front) (sym d) (partner_takes m s given c.requires.free c.if-step-eq-MEETING.true))
 
 pub returns-then-step-eq-MEETING : goal.returns-then-step-eq-MEETING
@@ -48,11 +48,11 @@ returns-then-step-eq-MEETING c =
     let m = model_of c.args.self.now in
     let s = c.args.step.now in
     let given = values_of c.args.values.now in
-    let e = as_values _ _ _ c.all-2.ensures.are c.exchanged-exchanged.ensures in
-    let d = as_values _ _ _ c.all-then-step-eq-MEETING.ensures.are c.exchanged-exchanged.ensures in
+    let e = as_values _ _ _ c.as_slice-2.ensures.items c.exchanged-exchanged.ensures in
+    let d = as_values _ _ _ c.as_slice-then-step-eq-MEETING.ensures.items c.exchanged-exchanged.ensures in
     let moved : model_of c.go_on.new.self ≡ with_moved m s.process s.front (exchanged m s given) = c.go_on.ensures ∙ ap (with_moved m s.process s.front) e in
     record {
-      entered = ap (record_of s) (sym (c.all.ensures.are ∙ c.exchanged-exchanged.ensures)) ∙ sym c.in-Some.ensures;
+      entered = ap (record_of s) (sym (c.as_slice.ensures.items ∙ c.exchanged-exchanged.ensures)) ∙ sym c.in-Some.ensures;
       after = c.go_on-then-step-eq-MEETING.ensures ∙ (λ i. with_moved (moved i) s.partner s.partner_front (d i)) ∙ together m s given c.if-step-eq-MEETING.true;
     }
 
@@ -61,8 +61,8 @@ returns-else-step-eq-MEETING c =
     let m = model_of c.args.self.now in
     let s = c.args.step.now in
     let given = values_of c.args.values.now in
-    let e = as_values _ _ _ c.all-2.ensures.are c.exchanged-exchanged.ensures in
+    let e = as_values _ _ _ c.as_slice-2.ensures.items c.exchanged-exchanged.ensures in
     record {
-      entered = ap (record_of s) (sym (c.all.ensures.are ∙ c.exchanged-exchanged.ensures)) ∙ sym c.in-Some.ensures;
+      entered = ap (record_of s) (sym (c.as_slice.ensures.items ∙ c.exchanged-exchanged.ensures)) ∙ sym c.in-Some.ensures;
       after = c.go_on.ensures ∙ ap (with_moved m s.process s.front) e ∙ alone m s given c.if-step-eq-MEETING.false;
     }

@@ -34,12 +34,6 @@ of-fresh-requires c =
     let below : k < length t.classes = subst (λ n. n < length t.classes) (sym is) (class_exists f s bs h c.loop-p.p l) in
     (class_numbered t.classes k, class_there f s bs h k below)
 
-pub set-requires : goal.set-requires
-set-requires c =
-    let f = c.args.file.now in
-    let bs = bytes_from f (λ i. omega (arith, (c.type_inv.file i).fits)) in
-    omega (arith, few f c.requires.0 bs c.requires.1, c.requires.3, c.loop-p-test.true)
-
 pub loop-p-preserved : goal.loop-p-preserved
 loop-p-preserved c s h a n =
     let f = c.args.file.now in

@@ -9,8 +9,8 @@ returns-in-Ok c =
     let h = c.in-Ok.ensures.value.0 in
     ap Ok (to_z-of_z w32 c.in-Ok.number (subst (SFits w32) (sym h.1) h.0.1) ∙ h.1) ∙ sym (read_ok c.args.text.now h.0.0 h.0.1)
 
-pub returns-then-is_numeral : goal.returns-then-is_numeral
-returns-then-is_numeral c =
+pub returns-in-Err : goal.returns-in-Err
+returns-in-Err c =
     let bs = c.args.text.now in
     let numeral : is_numeral bs ≡ true = ap is_numeral (sym c.as_bytes.ensures.value) ∙ sym c.if-is_numeral.ensures in
     sym (read_out bs numeral (λ fits. c.in-Err.ensures.value.0 ((numeral_tells bs).0 numeral, fits)))

@@ -1,0 +1,5 @@
+use Rattle.std.proofs.Common.{length}
+use Rattle.files.proofs.operands.+are_distinct.Given as goal
+
+abbrev pub decreases-are_distinct : goal.decreases-are_distinct
+decreases-are_distinct l = length l.list.now

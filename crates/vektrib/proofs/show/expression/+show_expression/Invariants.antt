@@ -1,4 +1,0 @@
-use Rattle.vektrib.proofs.show.expression.+show_expression.Given as goal
-
-abbrev pub decreases-show_expression : goal.decreases-show_expression
-decreases-show_expression l = l.left
