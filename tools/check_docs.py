@@ -292,12 +292,13 @@ def check_behaviour():
     # the command fronts
     gap = enc_file([([], [], ("SEL", ("GUARD", ("BOOL", 2), ("SKIP",)), ("DO", ("BOOL", 2), ("SKIP",))))], ("PROC", 0))
     blocks = re.findall(r"```\n(.*?)\n```", section(t, "The command `fronts`"), re.S)
-    ok([b.split("\n") for b in blocks] == [shell_fronts(hexs(x).split()) for x in (SITE, gap)], "answers of fronts")
+    ok([b.split("\n") for b in blocks] == [shell_fronts(hexs(SITE).split()), ["fronts " + hexs(gap)] + shell_fronts(hexs(gap).split())], "answers of fronts")
     # the command steps
     apart = enc_file([([], [(0, 1, 0, ())], ("SEND", 1, 0, [])), ([], [(1, 1, 0, ())], ("RECV", 1, 0, []))],
                      ("PAR", ("RENAME", 1, 2, ("PROC", 0)), ("PROC", 1)))
     blocks = re.findall(r"```\n(.*?)\n```", section(t, "The command `steps`"), re.S)
-    ok([b.split("\n") for b in blocks] == [shell_steps(hexs(x).split()) for x in (SITE, put(A, 55, 0), apart)], "answers of steps")
+    ok([b.split("\n") for b in blocks] == [shell_steps(hexs(SITE).split()), shell_steps(hexs(put(A, 55, 0)).split()),
+                                            ["steps " + hexs(apart)] + shell_steps(hexs(apart).split())], "answers of steps")
 
 def check_calls():
     t = page("CALLS.md")

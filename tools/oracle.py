@@ -546,6 +546,8 @@ eval EXPRESSION   works out an expression in prefix form, as eval ADD 1 MUL 2 3
                   values: numbers, true, false, ?i and ?b for unknown ones
 check HEX         says whether a model file is admitted, or its first fault
 show HEX          prints an admitted file as indented text, each command with its place
+fronts HEX        says what a fresh process of each class of an admitted file can do first
+steps HEX         lists the steps that an admitted file permits at its start, seven numbers each
 rota CHOOSER      draws up who is served at each turn; lines of closed steps follow,
                   seven numbers each, a blank line ends a turn, and end the rota
                   choosers: script N.., rotation, seniority, hold K rotation, hold K seniority"""
@@ -646,6 +648,8 @@ def shell(lines):
         elif words[0] == "eval": print("\n".join(shell_eval(" ".join(words[1:]))))
         elif words[0] == "check": print(shell_check(words[1:]))
         elif words[0] == "show": print("\n".join(shell_show(words[1:])))
+        elif words[0] == "fronts": print("\n".join(shell_fronts(words[1:])))
+        elif words[0] == "steps": print("\n".join(shell_steps(words[1:])))
         elif words[0] == "rota": rota_oracle.follow(words[1:], lines)
         else: print("wrong: unknown command '%s'; help lists the commands" % words[0])
 
