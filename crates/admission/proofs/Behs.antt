@@ -6,9 +6,9 @@ use Rattle.commands.specs.Behaviours.{behaviour_command}
 use Rattle.commands.specs.Depths.{behaviour_depth}
 use Rattle.commands.specs.Stands.{BehaviourAt}
 use Rattle.commands.specs.Trees.{Behaviour, process, parallel, hide, rename, behaviour_size}
-use Rattle.files.specs.declared.fault.FaultKind.TheVariants.{Command, Operand, Processes}
-use Rattle.files.specs.declared.fault.Layer.TheVariants.{Behaviour as BehaviourL}
-use Rattle.files.specs.Checked.{known}
+use Rattle.heads.specs.declared.fault.FaultKind.TheVariants.{Command, Operand, Processes}
+use Rattle.heads.specs.declared.fault.Layer.TheVariants.{Behaviour as BehaviourL}
+use Rattle.heads.specs.Checked.{known}
 use Rattle.files.specs.Behaviours.{Procs, behaviour_parts, check_behaviour}
 use Rattle.commands.specs.ByteLists.{Bytes}
 use Rattle.admission.specs.Conditions.{BehaviourKept, processes}

@@ -8,7 +8,7 @@ use Rattle.commands.specs.Bytes.{word, stmt_bytes, variables_bytes, declarations
 use Rattle.commands.specs.Numbers.{two_bytes}
 use Rattle.commands.specs.Stands.{StmtAt}
 use Rattle.commands.specs.Trees.{Stmt, Declaration, Class, stmt_size}
-use Rattle.files.specs.Heads.{byte, class_declarations}
+use Rattle.heads.specs.Heads.{byte, class_declarations}
 use Rattle.commands.specs.ByteLists.{Bytes}
 use Rattle.admission.specs.Conditions.{StmtKept, ClassKept}
 use Rattle.admission.proofs.ClassHeads.{HeadValid, head_end, byte_below}

@@ -6,10 +6,10 @@ use Rattle.values.specs.Values.{Val, kind_of}
 use Rattle.commands.specs.Bytes.{head_size, class_size, classes_size}
 use Rattle.commands.specs.Stands.{StmtAt}
 use Rattle.commands.specs.Trees.{Class, stmt_size}
-use Rattle.files.specs.declared.fault.FaultKind.TheVariants.{ClassHead, Command}
-use Rattle.files.specs.declared.fault.Layer.TheVariants.{ClassHead as ClassHeadL, Statement as StatementL}
+use Rattle.heads.specs.declared.fault.FaultKind.TheVariants.{ClassHead, Command}
+use Rattle.heads.specs.declared.fault.Layer.TheVariants.{ClassHead as ClassHeadL, Statement as StatementL}
 use Rattle.files.specs.Files.{levels, check_body, check_class, check_classes}
-use Rattle.files.specs.Heads.{byte, word_at, values_at, check_head, class_kinds, declarations_place, class_declarations}
+use Rattle.heads.specs.Heads.{byte, word_at, values_at, check_head, class_kinds, declarations_place, class_declarations}
 use Rattle.files.specs.Statements.{check_statement}
 use Rattle.commands.specs.ByteLists.{Bytes}
 use Rattle.admission.specs.Conditions.{StmtKept, most_fronts, ClassKept}

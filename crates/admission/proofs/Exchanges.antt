@@ -7,7 +7,8 @@ use Rattle.values.specs.Kinds.{same_kind}
 use Rattle.values.specs.Values.{same_truths}
 use Rattle.commands.specs.Bytes.{padded}
 use Rattle.commands.specs.Trees.{Declaration}
-use Rattle.files.specs.Statements.{exchange_fits, member, distinct, all_below, all_unused, variables_fit, kinds_of, same_kinds, same_declaration, declared, exchange}
+use Rattle.files.specs.Statements.{exchange_fits, member, distinct, all_below, all_unused, variables_fit, kinds_of}
+use Rattle.heads.specs.Exchanges.{same_kinds, same_declaration, declared, exchange}
 use Rattle.admission.specs.Conditions.{Declares, Differ, HaveKinds, ExchangeKept}
 use Rattle.admission.proofs.Oks.{both_true, same_from, same_refl}
 

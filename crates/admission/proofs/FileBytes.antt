@@ -5,7 +5,7 @@ use Rattle.values.specs.Values.{Val}
 use Rattle.commands.specs.Bytes.{behaviour_bytes, head_size, class_size, classes_bytes, classes_size, file_bytes}
 use Rattle.commands.specs.Stands.{StmtAt, BehaviourAt}
 use Rattle.commands.specs.Trees.{Stmt, Declaration, Class, Behaviour, File, behaviour_size}
-use Rattle.files.specs.Heads.{byte}
+use Rattle.heads.specs.Heads.{byte}
 use Rattle.commands.specs.ByteLists.{Bytes}
 use Rattle.admission.specs.Admission.{Admits}
 use Rattle.admission.specs.Conditions.{BehaviourKept, Conditions}

@@ -3,11 +3,11 @@ use Rattle.std.proofs.Common.{◌≡◌, ℕ, ◌+◌, ◌≤◌, ◌&&◌, eqb,
 use Rattle.commands.specs.Bytes.{classes_size, file_bytes}
 use Rattle.commands.specs.Stands.{BehaviourAt}
 use Rattle.commands.specs.Trees.{File, behaviour_size}
-use Rattle.files.specs.declared.fault.FaultKind.TheVariants.{Length, FirstBytes, Command}
-use Rattle.files.specs.declared.fault.Layer.TheVariants.{File as FileL, Behaviour as BehaviourL}
+use Rattle.heads.specs.declared.fault.FaultKind.TheVariants.{Length, FirstBytes, Command}
+use Rattle.heads.specs.declared.fault.Layer.TheVariants.{File as FileL, Behaviour as BehaviourL}
 use Rattle.files.specs.Behaviours.{check_behaviour}
 use Rattle.files.specs.Files.{levels, check_classes, check_header, Summary, check_file}
-use Rattle.files.specs.Heads.{byte}
+use Rattle.heads.specs.Heads.{byte}
 use Rattle.commands.specs.ByteLists.{Bytes}
 use Rattle.admission.specs.Admission.{summary}
 use Rattle.admission.specs.Conditions.{BehaviourKept, Conditions, processes}

@@ -14,7 +14,7 @@ use Rattle.values.specs.Values.{Val, integer, boolean, in_range}
 use Rattle.commands.specs.Bytes.{long, row_bytes, variables_bytes, direction, declaration_bytes, declarations_bytes}
 use Rattle.commands.specs.Numbers.{four_bytes}
 use Rattle.commands.specs.Trees.{Declaration}
-use Rattle.files.specs.Heads.{byte, integer_at, row_at, values_at, kind_at, value_kinds, declaration_at, declarations_at, is_kind, kind_fits, declarations_place, class_declarations}
+use Rattle.heads.specs.Heads.{byte, integer_at, row_at, values_at, kind_at, value_kinds, declaration_at, declarations_at, is_kind, kind_fits, declarations_place, class_declarations}
 use Rattle.commands.specs.ByteLists.{Bytes}
 use Rattle.admission.specs.Conditions.{DeclarationKept}
 use Rattle.admission.proofs.ClassHeads.{VariableValid, VariablesValid, DeclarationValid, DeclarationsValid, HeadValid, head_end, byte_below, values_count, declarations_count, value_kinds_count}

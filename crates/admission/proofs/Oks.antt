@@ -3,9 +3,9 @@ use Rattle.std.proofs.Common.{◌≡◌, ℕ, Bool, true, false, ◌&&◌, Some,
 use Rattle.values.specs.declared.kind.Kind.{Kind}
 use Rattle.values.specs.declared.kind.Kind.TheVariants.{Integer, Boolean}
 use Rattle.values.specs.Kinds.{same_kind}
-use Rattle.files.specs.declared.fault.FaultKind.{FaultKind}
-use Rattle.files.specs.declared.fault.Layer.{Layer}
-use Rattle.files.specs.Checked.{Checked, ask, known, ◌>>=◌, ◌>>◌}
+use Rattle.heads.specs.declared.fault.FaultKind.{FaultKind}
+use Rattle.heads.specs.declared.fault.Layer.{Layer}
+use Rattle.heads.specs.Checked.{Checked, ask, known, ◌>>=◌, ◌>>◌}
 
 pub bind_ok : {A B : Type 0} (x : Checked A) (g : A → Checked B) (v : B) → (x >>= g) ≡ Ok v → (a : A) × (x ≡ Ok a) × (g a ≡ Ok v)
 bind_ok (Ok a) g v h = (a, refl, h)

@@ -5,11 +5,11 @@ use Rattle.commands.specs.ByteLists.{Bytes}
 use Rattle.commands.specs.Bytes.{file_bytes, head_size, class_size, classes_size}
 use Rattle.commands.specs.Trees.{Class, File}
 use Rattle.commands.proofs.Cuts.{stmt_uncut}
-use Rattle.files.specs.declared.fault.LoadFault.{LoadFault}
+use Rattle.heads.specs.declared.fault.LoadFault.{LoadFault}
 use Rattle.files.specs.declared.file.Summary.{Summary}
-use Rattle.files.specs.Checked.{◌>>=◌}
+use Rattle.heads.specs.Checked.{◌>>=◌}
 use Rattle.files.specs.Files.{check_file, levels}
-use Rattle.files.specs.Heads.{word_at, statement_place}
+use Rattle.heads.specs.Heads.{word_at, statement_place}
 use Rattle.files.specs.Summaries.{summed}
 use Rattle.parts.specs.Parts.{stmt_in}
 use Rattle.parts.proofs.Reading.{stmt_reads, behaviour_reads}

@@ -11,11 +11,12 @@ use Rattle.commands.specs.Depths.{expr_depth, stmt_depth}
 use Rattle.commands.specs.Stands.{ExprAt, StmtAt}
 use Rattle.commands.specs.Statements.{statement_command}
 use Rattle.commands.specs.Trees.{Expr, Stmt, skip, assign, send, receive, sequence, select, guard, branch, loop, Declaration, expr_size, exprs_size, stmt_size}
-use Rattle.files.specs.declared.fault.FaultKind.TheVariants.{Command, Operand, PartKind, Undeclared, Fronts}
-use Rattle.files.specs.declared.fault.Layer.TheVariants.{Expression, Statement}
-use Rattle.files.specs.Checked.{Checked, known, ◌>>=◌}
+use Rattle.heads.specs.declared.fault.FaultKind.TheVariants.{Command, Operand, PartKind, Undeclared, Fronts}
+use Rattle.heads.specs.declared.fault.Layer.TheVariants.{Expression, Statement}
+use Rattle.heads.specs.Checked.{Checked, known, ◌>>=◌}
 use Rattle.files.specs.Expressions.{check_expression}
-use Rattle.files.specs.Statements.{Behind, exchange_fits, variables_fit, kinds_of, declared, exchange, check_values, check_test, few_fronts, statement_parts, check_statement}
+use Rattle.files.specs.Statements.{Behind, exchange_fits, variables_fit, kinds_of, check_values, check_test, few_fronts, statement_parts, check_statement}
+use Rattle.heads.specs.Exchanges.{declared, exchange}
 use Rattle.commands.specs.ByteLists.{Bytes}
 use Rattle.admission.specs.Conditions.{ExprKept, StmtKept, most_fronts}
 use Rattle.admission.proofs.Oks.{bind_ok, ask_ok, known_ok, both_true, ok_is, same_from, same_refl}

@@ -13,7 +13,7 @@ use Rattle.commands.specs.Bytes.{file_bytes}
 use Rattle.commands.specs.Depths.{stmt_depth, behaviour_depth}
 use Rattle.commands.specs.Trees.{Expr, leaf, binary, negation, Stmt, skip, assign, send, receive, sequence, select, guard, branch, loop, Behaviour, process, parallel, hide, rename, Declaration, Class, File}
 use Rattle.files.specs.Expressions.{leaf_kind}
-use Rattle.files.specs.Statements.{exchange}
+use Rattle.heads.specs.Exchanges.{exchange}
 
 -- an expression of a kind over variables of these kinds: each part has the kind that its operation takes
 abbrev pub LeafKept : List Kind → Kind → Leaf → Type 0

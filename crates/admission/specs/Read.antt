@@ -4,12 +4,12 @@ use Rattle.commands.specs.Bytes.{file_bytes, head_size, class_size, classes_size
 use Rattle.commands.specs.ByteLists.{Bytes}
 use Rattle.commands.specs.Stands.{StmtAt, BehaviourAt}
 use Rattle.commands.specs.Trees.{Class, File}
-use Rattle.files.specs.declared.fault.LoadFault.{LoadFault}
+use Rattle.heads.specs.declared.fault.LoadFault.{LoadFault}
 use Rattle.files.specs.declared.file.Summary.{Summary}
-use Rattle.files.specs.Checked.{Checked, ◌>>=◌}
+use Rattle.heads.specs.Checked.{Checked, ◌>>=◌}
 use Rattle.files.specs.Files as files
 use Rattle.files.specs.Files.{check_file, levels}
-use Rattle.files.specs.Heads.{byte, word_at, values_at, class_declarations, statement_place}
+use Rattle.heads.specs.Heads.{byte, word_at, values_at, class_declarations, statement_place}
 use Rattle.parts.specs.Parts.{stmt_in, behaviour_in}
 use Rattle.admission.specs.Admission.{summary}
 use Rattle.admission.specs.Conditions.{Conditions}

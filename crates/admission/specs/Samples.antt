@@ -1,8 +1,8 @@
 -- Worked samples: files, and what the check answers.
 use Rattle.std.specs.Prelude.{◌≡◌, ℕ, zero, suc, ◌+◌, List, [], ◌∷◌, ◌++◌, length, take, Ok, Err, slice_set}
-use Rattle.files.specs.declared.fault.FaultKind.TheVariants.{Command, Depth, Operand, Undeclared, Fronts}
-use Rattle.files.specs.declared.fault.Layer.TheVariants.{Statement, Expression, Behaviour}
-use Rattle.files.specs.Checked.{fault}
+use Rattle.heads.specs.declared.fault.FaultKind.TheVariants.{Command, Depth, Operand, Undeclared, Fronts}
+use Rattle.heads.specs.declared.fault.Layer.TheVariants.{Statement, Expression, Behaviour}
+use Rattle.heads.specs.Checked.{fault}
 use Rattle.files.specs.Files.{check_file}
 
 -- two classes: one sends its variable on channel 1, the other receives it; two processes under HIDE 1

@@ -2,7 +2,7 @@
 use Rattle.std.proofs.Common.{◌≡◌, ℕ, zero, suc, ◌+◌, ◌*◌, ◌<◌, ◌≤◌, List, ◌∷◌, map, take, refl, ap, arith}
 use Rattle.std.proofs.lemmas.List.{get_or-take}
 use Rattle.values.specs.Rows.{row_of, value_of_row}
-use Rattle.files.specs.Heads.{byte, integer_at, row_at, values_at, value_kinds, declaration_at, declarations_at}
+use Rattle.heads.specs.Heads.{byte, integer_at, row_at, values_at, value_kinds, declaration_at, declarations_at}
 use Rattle.admission.proofs.ClassHeads.{VariablesValid, DeclarationsValid}
 use Rattle.admission.proofs.HeadBytes.{row_back}
 use Rattle.classes.specs.Classes.{rows_at}

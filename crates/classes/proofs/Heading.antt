@@ -5,9 +5,9 @@ use Rattle.values.specs.declared.row.Row.{Row}
 use Rattle.values.specs.Rows.{row_of}
 use Rattle.values.specs.Values.{kind_of}
 use Rattle.commands.specs.Trees.{Class}
-use Rattle.files.specs.declared.exchange.Scope.{Scope}
-use Rattle.files.specs.Heads.{row_at, kinds_at}
-use Rattle.files.specs.Summaries.{scope_at}
+use Rattle.heads.specs.declared.class.Scope.{Scope}
+use Rattle.heads.specs.Heads.{row_at, kinds_at}
+use Rattle.heads.specs.Scopes.{scope_at}
 use Rattle.admission.proofs.ClassHeads.{values_count, values_kinds}
 use Rattle.classes.specs.Classes.{Begins, Scoped, rows_at}
 

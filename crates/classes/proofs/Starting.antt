@@ -6,8 +6,8 @@ use Rattle.values.specs.Rows.{row_of, value_of_row}
 use Rattle.values.specs.Values.{Val}
 use Rattle.commands.specs.Stands.{StmtAt}
 use Rattle.commands.specs.Trees.{Class}
-use Rattle.files.specs.declared.exchange.Scope.{Scope}
-use Rattle.files.specs.Heads.{row_at}
+use Rattle.heads.specs.declared.class.Scope.{Scope}
+use Rattle.heads.specs.Heads.{row_at}
 use Rattle.admission.specs.Conditions.{ClassKept}
 use Rattle.admission.proofs.HeadBytes.{value_back}
 use Rattle.processes.specs.Found.{StmtsAt}

@@ -8,7 +8,7 @@ use Rattle.commands.specs.Bytes.{head_size, class_size}
 use Rattle.commands.specs.Stands.{StmtAt}
 use Rattle.commands.specs.Trees.{Class, File}
 use Rattle.commands.proofs.Cuts.{stmt_uncut}
-use Rattle.files.specs.Heads.{byte, word_at, class_declarations, declarations_at, declarations_place, statement_place}
+use Rattle.heads.specs.Heads.{byte, word_at, class_declarations, declarations_at, declarations_place, statement_place}
 use Rattle.admission.specs.Conditions.{ClassKept, Conditions}
 use Rattle.admission.specs.Read.{read}
 use Rattle.admission.proofs.ClassParts.{ClassAt, ClassesAt, head_long}

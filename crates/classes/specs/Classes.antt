@@ -5,9 +5,9 @@ use Rattle.values.specs.declared.row.Row.{Row}
 use Rattle.values.specs.Rows.{row_of}
 use Rattle.commands.specs.Stands.{StmtAt}
 use Rattle.commands.specs.Trees.{Class, File}
-use Rattle.files.specs.declared.exchange.Scope.{Scope}
-use Rattle.files.specs.Heads.{byte, row_at, values_at, declarations_at, class_declarations, statement_place}
-use Rattle.files.specs.Scopes.{Within}
+use Rattle.heads.specs.declared.class.Scope.{Scope}
+use Rattle.heads.specs.Heads.{byte, row_at, values_at, declarations_at, class_declarations, statement_place}
+use Rattle.heads.specs.Scopes.{Within}
 use Rattle.admission.specs.Read.{read}
 
 -- class number k of the tree of an admitted file

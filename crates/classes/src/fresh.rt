@@ -5,7 +5,7 @@ ghost use Rattle.classes.specs.Classes.{ClassOf, rows_at};
 ghost use Rattle.classes.specs.Starts.{unknown_row, FreshOf};
 
 use crate::head::{scope_of, statement_of};
-use files::variables::Variables;
+use heads::variables::Variables;
 use processes::left::Left;
 use values::row::{Row, UNKNOWN};
 

@@ -7,14 +7,12 @@ ghost use Rattle.values.specs.Rows.{row_of};
 ghost use Rattle.values.specs.Values.{kind_of};
 ghost use Rattle.commands.specs.Stands.{StmtAt};
 ghost use Rattle.commands.specs.Trees.{Class};
-ghost use Rattle.files.specs.Exchanges.{exchange_of};
-ghost use Rattle.files.specs.Statements.{declared};
+ghost use Rattle.heads.specs.Exchanges.{exchange_of, declared};
 ghost use Rattle.classes.specs.Classes.{ClassOf, Scoped};
 
 use crate::place::class_at;
-use files::class::{scope_at, statement_at};
-use files::declarations::Exchange;
-use files::exchange::Scope;
+use heads::class::{Scope, scope_at, statement_at};
+use heads::declarations::Exchange;
 use values::kind::Kind;
 use values::row::Row;
 

@@ -2,7 +2,7 @@
 ghost use Rattle.commands.specs.Trees.{Class};
 ghost use Rattle.classes.specs.Classes.{ClassOf, Begins};
 
-use files::class::end_of_class;
+use heads::class::end_of_class;
 
 // Where the bytes of a class begin, behind its length.
 pub fn class_at(file: &[u8], class: u8) -> usize

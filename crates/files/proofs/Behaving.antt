@@ -1,9 +1,9 @@
 -- The check of a behaviour, one level at a time.
 use Rattle.std.proofs.Common.{◌≡◌, ℕ, zero, suc, ◌-◌, ◌<◌, List, drop, None, Err, refl, arith}
 use Rattle.commands.specs.Behaviours.{behaviour_command}
-use Rattle.files.specs.declared.fault.FaultKind.TheVariants.{Command, Depth}
-use Rattle.files.specs.declared.fault.Layer.TheVariants.{Behaviour}
-use Rattle.files.specs.Checked.{fault, known, ◌>>=◌}
+use Rattle.heads.specs.declared.fault.FaultKind.TheVariants.{Command, Depth}
+use Rattle.heads.specs.declared.fault.Layer.TheVariants.{Behaviour}
+use Rattle.heads.specs.Checked.{fault, known, ◌>>=◌}
 use Rattle.files.specs.Behaviours.{check_behaviour, behaviour_parts}
 
 pub unknown : (d : ℕ) (f : List ℕ) (classes at procs : ℕ) → behaviour_command (drop at f) ≡ None → check_behaviour d f classes at procs ≡ Err (fault Command at Behaviour)

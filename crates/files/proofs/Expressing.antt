@@ -2,9 +2,9 @@
 use Rattle.std.proofs.Common.{◌≡◌, ℕ, zero, suc, ◌-◌, ◌<◌, List, drop, None, Err, refl, arith}
 use Rattle.values.specs.declared.kind.Kind.{Kind}
 use Rattle.commands.specs.Expressions.{expression_command}
-use Rattle.files.specs.declared.fault.FaultKind.TheVariants.{Command, Depth}
-use Rattle.files.specs.declared.fault.Layer.TheVariants.{Expression}
-use Rattle.files.specs.Checked.{fault, known, ◌>>=◌}
+use Rattle.heads.specs.declared.fault.FaultKind.TheVariants.{Command, Depth}
+use Rattle.heads.specs.declared.fault.Layer.TheVariants.{Expression}
+use Rattle.heads.specs.Checked.{fault, known, ◌>>=◌}
 use Rattle.files.specs.Expressions.{check_expression, expression_parts}
 
 pub unknown : (d : ℕ) (f : List ℕ) (at : ℕ) (ks : List Kind) → expression_command (drop at f) ≡ None → check_expression d f at ks ≡ Err (fault Command at Expression)

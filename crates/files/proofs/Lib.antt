@@ -1,9 +1,5 @@
-pub mod VariableKinds
 pub mod Expressing
 pub mod Behaving
-pub mod Repeating
-pub mod KindBytes
-pub mod Declaring
 pub mod Valuing
 pub mod Receiving
 pub mod Stating

@@ -3,7 +3,7 @@ use Rattle.std.specs.Prelude.{List}
 use Rattle.values.specs.declared.kind.Kind.{Kind}
 use Rattle.commands.specs.Trees.{Declaration}
 use Rattle.files.specs.declared.body.Body.{Body}
-use Rattle.files.specs.Heads.{kinds_at, declarations_at}
+use Rattle.heads.specs.Heads.{kinds_at, declarations_at}
 
 abbrev pub kinds_in : Body → List Kind
 kinds_in b = kinds_at b.scope.variables.count b.file.now b.scope.variables.at

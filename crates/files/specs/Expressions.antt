@@ -11,9 +11,9 @@ use Rattle.commands.specs.declared.expression.ExpressionCommand.TheVariants.{Lea
 use Rattle.commands.specs.declared.expression.Leaf.{Leaf}
 use Rattle.commands.specs.declared.expression.Leaf.TheVariants.{Int, Bool as BoolL, Iunk, Var}
 use Rattle.commands.specs.Expressions.{expression_command, leaf_size}
-use Rattle.files.specs.declared.fault.FaultKind.TheVariants.{Command, Depth, Operand, PartKind}
-use Rattle.files.specs.declared.fault.Layer.TheVariants.{Expression}
-use Rattle.files.specs.Checked.{Checked, fault, ask, known, ◌>>=◌, ◌>>◌}
+use Rattle.heads.specs.declared.fault.FaultKind.TheVariants.{Command, Depth, Operand, PartKind}
+use Rattle.heads.specs.declared.fault.Layer.TheVariants.{Expression}
+use Rattle.heads.specs.Checked.{Checked, fault, ask, known, ◌>>=◌, ◌>>◌}
 
 -- the place behind an expression, and its kind
 abbrev pub End : Type 0

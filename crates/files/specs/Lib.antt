@@ -1,11 +1,6 @@
-pub mod Faults
-pub mod Checked
 pub mod Expressions
-pub mod Heads
 pub mod Statements
 pub mod KindLists
-pub mod Exchanges
-pub mod Scopes
 pub mod Bodies
 pub mod Behaviours
 pub mod Files

@@ -1,17 +1,17 @@
 -- The check of a statement at a place of the file: the first fault, or the place behind it and its most fronts.
-use Rattle.std.specs.Prelude.{ℕ, zero, suc, ◌+◌, Bool, true, false, not, ◌&&◌, ◌||◌, List, [], ◌∷◌, map, length, take, drop, Ok, Err, Option, unwrap_or, ◌==◌, nat_le, nat_lt}
+use Rattle.std.specs.Prelude.{ℕ, zero, suc, ◌+◌, Bool, true, false, not, ◌&&◌, List, [], ◌∷◌, map, length, take, drop, Ok, Err, Option, unwrap_or, ◌==◌, nat_le, nat_lt}
 use Rattle.std.specs.List.{slice_get, list_any, list_all}
 use Rattle.values.specs.declared.kind.Kind.{Kind}
 use Rattle.values.specs.declared.kind.Kind.TheVariants.{Integer, Boolean}
 use Rattle.values.specs.Kinds.{same_kind}
-use Rattle.values.specs.Values.{same_truths}
 use Rattle.commands.specs.declared.statement.StatementCommand.{StatementCommand}
 use Rattle.commands.specs.declared.statement.StatementCommand.TheVariants.{Skip, Set, Send, Recv, Seq, Sel, Guard, If, Do}
 use Rattle.commands.specs.Statements.{statement_command}
 use Rattle.commands.specs.Trees.{Declaration}
-use Rattle.files.specs.declared.fault.FaultKind.TheVariants.{Command, Depth, Operand, PartKind, Undeclared, Fronts}
-use Rattle.files.specs.declared.fault.Layer.TheVariants.{Expression, Statement}
-use Rattle.files.specs.Checked.{Checked, fault, ask, known, ◌>>=◌, ◌>>◌}
+use Rattle.heads.specs.declared.fault.FaultKind.TheVariants.{Command, Depth, Operand, PartKind, Undeclared, Fronts}
+use Rattle.heads.specs.declared.fault.Layer.TheVariants.{Expression, Statement}
+use Rattle.heads.specs.Checked.{Checked, fault, ask, known, ◌>>=◌, ◌>>◌}
+use Rattle.heads.specs.Exchanges.{exchange, declared}
 use Rattle.files.specs.Expressions.{End, check_expression}
 
 -- the place behind a statement, and how many fronts it can have
@@ -45,23 +45,6 @@ kind_or_integer k = unwrap_or k Integer
 -- the kinds of variables that exist
 abbrev pub kinds_of : List Kind → List ℕ → List Kind
 kinds_of ks vs = map (λ v. kind_or_integer (slice_get ks v)) vs
-
-abbrev pub same_kinds : List Kind → List Kind → Bool
-same_kinds [] [] = true
-same_kinds [] (l ∷ ls) = false
-same_kinds (k ∷ ks) [] = false
-same_kinds (k ∷ ks) (l ∷ ls) = same_kind k l && same_kinds ks ls
-
-abbrev pub same_declaration : Declaration → Declaration → Bool
-same_declaration d e =
-    same_truths d.receives e.receives && d.channel == e.channel && d.message == e.message && same_kinds d.kinds e.kinds
-
-abbrev pub declared : Declaration → List Declaration → Bool
-declared d [] = false
-declared d (e ∷ es) = same_declaration d e || declared d es
-
-abbrev pub exchange : Bool → ℕ → ℕ → List Kind → Declaration
-exchange receives channel message kinds = record { receives = receives; channel = channel; message = message; kinds = kinds }
 
 -- some expressions one after the other: the place behind them, and their kinds
 abbrev pub check_values : ℕ → (ℕ → Checked End) → ℕ → Checked (ℕ × List Kind)

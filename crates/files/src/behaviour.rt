@@ -1,14 +1,14 @@
 // The check of behaviours. One function alone takes both the file and the number of classes, so no struct holds them.
-ghost use Rattle.std.specs.Prelude.{◌≡◌, ◌+◌, ◌^◌, ◌<◌, ◌&&◌, nat_lt};
-ghost use Rattle.files.specs.Checked.{ask as asked};
-ghost use Rattle.files.specs.declared.fault.FaultKind.TheVariants.{Operand};
-ghost use Rattle.files.specs.declared.fault.Layer.TheVariants.{Behaviour};
-ghost use Rattle.files.specs.Behaviours.{check_behaviour, check_process};
+ghost use Rattle.std.specs.Prelude.{◌≡◌};
+ghost use Rattle.heads.specs.Checked.{ask as asked};
+ghost use Rattle.heads.specs.declared.fault.FaultKind.TheVariants.{Operand, Processes};
+ghost use Rattle.heads.specs.declared.fault.Layer.TheVariants.{Behaviour};
+ghost use Rattle.files.specs.Behaviours.{check_behaviour, operands_fit, few_processes};
 
-use crate::checked::{ask, fault};
-use crate::fault::{FaultKind, Layer, LoadFault};
 use commands::behaviour::BehaviourCommand;
 use commands::command::read;
+use heads::checked::{ask, fault};
+use heads::fault::{FaultKind, Layer, LoadFault};
 
 // The most processes of a model.
 const PROCESSES: u8 = 8;
@@ -16,30 +16,27 @@ const PROCESSES: u8 = 8;
 // The number of channels.
 const CHANNELS: u8 = 32;
 
-fn check_process(classes: u8, procs: u8, at: usize, class: u8) -> Result<(usize, u8), LoadFault>
-    requires { at + 2 < 2 ^ 64 }
-    ensures { result ≡ check_process classes procs at class }
+// Whether the operands of a command are within their bounds: a class that there is, two channels.
+fn operands_fit(command: BehaviourCommand, classes: u8, at: usize) -> Result<(), LoadFault>
+    ensures { result ≡ asked (operands_fit classes command) Operand at Behaviour }
 {
-    ask(class < classes, FaultKind::Operand, at, Layer::Behaviour)?;
-    ask(
-        procs < PROCESSES,
-        FaultKind::Processes,
-        at,
-        Layer::Behaviour,
-    )?;
-    Ok((at + 2, procs + 1))
+    let fit = match command {
+        BehaviourCommand::Proc(class) => class < classes,
+        BehaviourCommand::Rename(from, to) => from < CHANNELS && to < CHANNELS,
+        BehaviourCommand::Par(_) | BehaviourCommand::Hide(_) => true,
+    };
+    ask(fit, FaultKind::Operand, at, Layer::Behaviour)
 }
 
-// Whether both operands of a RENAME are channels.
-fn channels_fit(from: u8, to: u8, at: usize) -> Result<(), LoadFault>
-    ensures { result ≡ asked (nat_lt from 32 && nat_lt to 32) Operand at Behaviour }
+// Whether a PROC is one of at most eight, behind so many.
+fn few_processes(command: BehaviourCommand, procs: u8, at: usize) -> Result<(), LoadFault>
+    ensures { result ≡ asked (few_processes procs command) Processes at Behaviour }
 {
-    ask(
-        from < CHANNELS && to < CHANNELS,
-        FaultKind::Operand,
-        at,
-        Layer::Behaviour,
-    )
+    let few = match command {
+        BehaviourCommand::Proc(_) => procs < PROCESSES,
+        BehaviourCommand::Par(_) | BehaviourCommand::Hide(_) | BehaviourCommand::Rename(..) => true,
+    };
+    ask(few, FaultKind::Processes, at, Layer::Behaviour)
 }
 
 // The place behind the behaviour at `at`, and the PROCs up to there; it may nest `left` deep.
@@ -58,11 +55,11 @@ pub(crate) fn check_behaviour(
         at,
         Layer::Behaviour,
     ))?;
-    if left == 0 {
-        return Err(fault(FaultKind::Depth, at, Layer::Behaviour));
-    }
+    ask(left > 0, FaultKind::Depth, at, Layer::Behaviour)?;
+    operands_fit(command, classes, at)?;
+    few_processes(command, procs, at)?;
     match command {
-        BehaviourCommand::Proc(class) => check_process(classes, procs, at, class),
+        BehaviourCommand::Proc(_) => Ok((at + 2, procs + 1)),
         BehaviourCommand::Par(place) => {
             let (end, so_far) = check_behaviour(file, classes, at + 3, left - 1, procs)?;
             ask(
@@ -74,9 +71,6 @@ pub(crate) fn check_behaviour(
             check_behaviour(file, classes, end, left - 1, so_far)
         }
         BehaviourCommand::Hide(_) => check_behaviour(file, classes, at + 5, left - 1, procs),
-        BehaviourCommand::Rename(from, to) => {
-            channels_fit(from, to, at)?;
-            check_behaviour(file, classes, at + 3, left - 1, procs)
-        }
+        BehaviourCommand::Rename(..) => check_behaviour(file, classes, at + 3, left - 1, procs),
     }
 }

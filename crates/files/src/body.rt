@@ -1,7 +1,7 @@
 // What the check of a statement goes over.
-ghost use Rattle.files.specs.Scopes.{Within};
+ghost use Rattle.heads.specs.Scopes.{Within};
 
-use crate::exchange::Scope;
+use heads::class::Scope;
 
 // The bytes up to the end of a class, and what its statement may name, which stands within them.
 // Place and levels left stay parameters of its checks: each part has others,

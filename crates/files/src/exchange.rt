@@ -6,24 +6,15 @@ ghost use Rattle.files.specs.KindLists.{kinds_list, listed};
 ghost use Rattle.files.specs.Statements.{check_values, check_set, check_send, check_receive, kinds_of};
 
 use crate::body::Body;
-use crate::checked::{ask, fault};
-use crate::declarations::{Declarations, Exchange};
-use crate::fault::{FaultKind, Layer, LoadFault};
 use crate::operands::{exchange_fits, receive_fits};
-use crate::variables::Variables;
+use heads::checked::{ask, fault};
+use heads::declarations::Exchange;
+use heads::fault::{FaultKind, Layer, LoadFault};
 use values::few::Few;
 use values::kind::Kind;
 
 // The kinds of the values of a SEND or RECV.
 type Kinds = Few<Kind, 4>;
-
-// What a class's statement may name: its variables and declarations.
-// That they lie within the file is no part of it, since `scope_at` answers for any bytes.
-#[derive(Clone, Copy)]
-pub struct Scope {
-    pub variables: Variables,
-    pub declarations: Declarations,
-}
 
 impl Body<'_> {
     // Some values one after the other: the place behind them, and their kinds.

@@ -6,11 +6,11 @@ ghost use Rattle.files.specs.Summaries.{summed};
 
 use crate::behaviour::check_behaviour;
 use crate::body::Body;
-use crate::bytes::word_at;
-use crate::checked::{ask, fault};
-use crate::class::scope_at;
-use crate::fault::{FaultKind, Layer, LoadFault};
-use crate::head::{check_head, inside};
+use heads::bytes::word_at;
+use heads::checked::{ask, fault};
+use heads::class::scope_at;
+use heads::fault::{FaultKind, Layer, LoadFault};
+use heads::head::{check_head, inside};
 use std::fmt;
 
 // The levels that commands may nest.

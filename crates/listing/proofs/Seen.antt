@@ -6,7 +6,7 @@ use Rattle.values.specs.declared.kind.Kind.{Kind}
 use Rattle.values.specs.Kinds.{same_kind}
 use Rattle.values.specs.Values.{Val, integer, kind_of}
 use Rattle.commands.specs.Trees.{Behaviour}
-use Rattle.files.specs.Statements.{same_kinds}
+use Rattle.heads.specs.Exchanges.{same_kinds}
 use Rattle.processes.specs.Fronts.{Action, internal, store, sends, receives}
 use Rattle.records.specs.declared.step.Step.{Step}
 use Rattle.records.specs.Lists.{optional}

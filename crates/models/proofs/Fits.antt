@@ -4,7 +4,7 @@ use Rattle.std.proofs.lemmas.Bool.{eqb-true, eq-eqb, ne_eqb}
 use Rattle.values.specs.declared.kind.Kind.{Kind}
 use Rattle.values.specs.declared.row.Row.{Row}
 use Rattle.values.specs.Values.{Val, kind_of}
-use Rattle.files.specs.Statements.{same_kinds}
+use Rattle.heads.specs.Exchanges.{same_kinds}
 use Rattle.processes.specs.Evaluation.{values_of}
 use Rattle.processes.specs.Fronts.{Action, internal, store, sends, receives, Front, front}
 use Rattle.records.specs.declared.step.Step.{Step}

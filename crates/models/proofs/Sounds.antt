@@ -4,7 +4,7 @@ use Rattle.std.specs.List.{AllByRecursion}
 use Rattle.std.proofs.lemmas.Bool.{eqb-true, lt-ltb}
 use Rattle.commands.specs.ByteLists.{Bytes}
 use Rattle.commands.specs.Trees.{Behaviour}
-use Rattle.files.specs.Checked.{Checked}
+use Rattle.heads.specs.Checked.{Checked}
 use Rattle.files.specs.Files.{Summary, check_file, levels}
 use Rattle.parts.specs.Parts.{behaviour_in}
 use Rattle.admission.proofs.Oks.{both_true}

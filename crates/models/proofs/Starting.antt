@@ -9,7 +9,7 @@ use Rattle.commands.specs.ByteLists.{Bytes}
 use Rattle.commands.specs.Bytes.{classes_size}
 use Rattle.commands.specs.Stands.{BehaviourAt}
 use Rattle.commands.specs.Trees.{Class, File}
-use Rattle.files.specs.Checked.{◌>>=◌}
+use Rattle.heads.specs.Checked.{◌>>=◌}
 use Rattle.files.specs.Files.{Summary, check_file}
 use Rattle.admission.specs.Conditions.{processes}
 use Rattle.admission.specs.Read.{tree_in, read}

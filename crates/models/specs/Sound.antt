@@ -1,6 +1,6 @@
 -- What the memory of a model keeps.
 use Rattle.std.specs.Prelude.{◌≡◌, ℕ, ◌<◌, Bool, true, false, ◌&&◌, List, Option, Ok, Err, ◌==◌, slice_index_or}
-use Rattle.files.specs.Checked.{Checked}
+use Rattle.heads.specs.Checked.{Checked}
 use Rattle.files.specs.Files.{Summary, check_file, levels}
 use Rattle.parts.specs.Parts.{behaviour_in}
 use Rattle.arrivals.specs.Climbing.{arrival_table}

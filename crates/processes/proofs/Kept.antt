@@ -11,7 +11,7 @@ use Rattle.commands.specs.declared.expression.Leaf.{Leaf}
 use Rattle.commands.specs.declared.expression.Leaf.TheVariants.{Int, Bool as BoolL, Iunk, Var}
 use Rattle.commands.specs.Depths.{stmt_depth}
 use Rattle.commands.specs.Trees.{Expr, leaf, binary, negation, Stmt, skip, assign, send, receive, sequence, select, guard, branch, loop, Declaration, Class}
-use Rattle.files.specs.Statements.{exchange}
+use Rattle.heads.specs.Exchanges.{exchange}
 use Rattle.admission.specs.Conditions.{LeafKept, ExprKept, ExprsKept, StmtKept, HaveKinds, Declares, ClassKept, most_fronts}
 use Rattle.processes.specs.Evaluation.{eval, leaf_value}
 use Rattle.processes.specs.Fronts.{Action, internal, store, sends, receives, Front, front, is_true, is_false, offered, fronts, process_fronts}

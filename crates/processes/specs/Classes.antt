@@ -5,7 +5,7 @@ use Rattle.values.specs.declared.kind.Kind.{Kind}
 use Rattle.values.specs.Values.{Val, kind_of}
 use Rattle.commands.specs.Depths.{stmt_depth}
 use Rattle.commands.specs.Trees.{Stmt, skip, assign, send, receive, sequence, select, guard, branch, loop, Declaration, Class}
-use Rattle.files.specs.Statements.{exchange}
+use Rattle.heads.specs.Exchanges.{exchange}
 use Rattle.admission.specs.Conditions.{Declares, HaveKinds, StmtKept, ClassKept}
 use Rattle.processes.specs.Fronts.{Action, internal, store, sends, receives, Front, process_fronts}
 

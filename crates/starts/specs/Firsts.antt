@@ -1,7 +1,7 @@
 -- The steps of a file at its start.
 use Rattle.std.specs.Prelude.{List, [], Ok, Err}
 use Rattle.commands.specs.Trees.{File}
-use Rattle.files.specs.Checked.{Checked}
+use Rattle.heads.specs.Checked.{Checked}
 use Rattle.records.specs.declared.step.Step.{Step}
 use Rattle.steps.specs.Models.{start}
 use Rattle.steps.specs.Steps.{steps}

@@ -4,7 +4,7 @@ ghost use Rattle.admission.specs.Read.{read};
 ghost use Rattle.records.specs.Lists.{items, room_of};
 ghost use Rattle.starts.specs.Firsts.{first_steps};
 
-use files::fault::LoadFault;
+use heads::fault::LoadFault;
 use inspect::check::answer_bytes;
 use models::model::{MOST_STEPS, Model};
 use records::list::RecordList;

@@ -5,7 +5,7 @@ use Rattle.std.specs.List.{flat_map}
 use Rattle.values.specs.declared.kind.Kind.{Kind}
 use Rattle.values.specs.Values.{kind_of}
 use Rattle.commands.specs.Trees.{Behaviour}
-use Rattle.files.specs.Statements.{same_kinds}
+use Rattle.heads.specs.Exchanges.{same_kinds}
 use Rattle.processes.specs.Fronts.{Action, internal, store, sends, receives}
 use Rattle.records.specs.declared.step.Step.{Step}
 use Rattle.records.specs.Steps as step

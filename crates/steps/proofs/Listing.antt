@@ -5,7 +5,7 @@ use Rattle.std.specs.List.{flat_map, AllByRecursion}
 use Rattle.values.specs.declared.kind.Kind.{Kind}
 use Rattle.values.specs.Values.{Val, kind_of}
 use Rattle.commands.specs.Trees.{Stmt, Behaviour, Class}
-use Rattle.files.specs.Statements.{same_kinds}
+use Rattle.heads.specs.Exchanges.{same_kinds}
 use Rattle.admission.specs.Conditions.{ClassKept}
 use Rattle.processes.proofs.Kept.{part_kept, few_fronts}
 use Rattle.processes.proofs.Numbered.{numbered}

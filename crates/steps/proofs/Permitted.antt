@@ -4,7 +4,7 @@ use Rattle.std.proofs.lemmas.List.{length-set}
 use Rattle.values.specs.declared.kind.Kind.{Kind}
 use Rattle.values.specs.Values.{Val, kind_of}
 use Rattle.commands.specs.Trees.{Class}
-use Rattle.files.specs.Statements.{exchange}
+use Rattle.heads.specs.Exchanges.{exchange}
 use Rattle.admission.specs.Conditions.{Declares, HaveKinds}
 use Rattle.processes.proofs.Kept.{variable_kind, class_laws, permitted_by, brings_in}
 use Rattle.processes.specs.Classes.{PermittedBy, BringsOver, FrontOf}

@@ -2,7 +2,7 @@
 use Rattle.std.specs.Prelude.{◌≡◌, ℕ, Bool, true, false, List, Some, Option}
 use Rattle.values.specs.declared.kind.Kind.{Kind}
 use Rattle.commands.specs.Trees.{Class}
-use Rattle.files.specs.Statements.{exchange}
+use Rattle.heads.specs.Exchanges.{exchange}
 use Rattle.admission.specs.Conditions.{Declares}
 use Rattle.records.specs.declared.step.Step.{Step}
 use Rattle.arrivals.specs.Climbing.{climb, meeting_channel}

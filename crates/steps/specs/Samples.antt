@@ -4,7 +4,7 @@ use Rattle.values.specs.declared.kind.Kind.TheVariants.{Integer}
 use Rattle.values.specs.Values.{integer}
 use Rattle.commands.specs.declared.expression.Leaf.TheVariants.{Var}
 use Rattle.commands.specs.Trees.{leaf, send, receive, process, parallel, hide, File}
-use Rattle.files.specs.Statements.{exchange}
+use Rattle.heads.specs.Exchanges.{exchange}
 use Rattle.admission.specs.Read.{read}
 use Rattle.admission.specs.Samples.{exchange_file}
 use Rattle.records.specs.Steps.{meeting, outside_send, outside_receive}

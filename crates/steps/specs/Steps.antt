@@ -4,7 +4,7 @@ use Rattle.std.specs.List.{flat_map}
 use Rattle.values.specs.declared.kind.Kind.{Kind}
 use Rattle.values.specs.Values.{Val, integer, kind_of}
 use Rattle.commands.specs.Trees.{Behaviour}
-use Rattle.files.specs.Statements.{same_kinds}
+use Rattle.heads.specs.Exchanges.{same_kinds}
 use Rattle.processes.specs.Fronts.{Action, internal, store, sends, receives, Front, process_fronts}
 use Rattle.records.specs.declared.step.Step.{Step}
 use Rattle.records.specs.Steps as step

@@ -5,7 +5,7 @@ use Rattle.std.proofs.lemmas.Bool.{ltb-true}
 use Rattle.values.specs.declared.row.Row.{Row}
 use Rattle.commands.specs.ByteLists.{Bytes}
 use Rattle.commands.specs.Bytes.{file_bytes}
-use Rattle.files.specs.Checked.{◌>>=◌}
+use Rattle.heads.specs.Checked.{◌>>=◌}
 use Rattle.files.specs.Files.{Summary, check_file}
 use Rattle.admission.specs.Admission.{summary}
 use Rattle.admission.specs.Conditions.{ClassKept, Conditions}

@@ -6,7 +6,7 @@ use Rattle.values.specs.declared.kind.Kind.{Kind}
 use Rattle.values.specs.Values.{Val, kind_of}
 use Rattle.commands.specs.ByteLists.{Bytes}
 use Rattle.commands.specs.Trees.{Declaration}
-use Rattle.files.specs.Statements.{exchange}
+use Rattle.heads.specs.Exchanges.{exchange}
 use Rattle.admission.specs.Conditions.{HaveKinds, DeclarationKept}
 use Rattle.processes.specs.Classes.{PermittedBy, FrontKept}
 use Rattle.processes.specs.Evaluation.{values_of}

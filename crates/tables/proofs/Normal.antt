@@ -4,7 +4,7 @@ use Rattle.values.specs.declared.kind.Kind.{Kind}
 use Rattle.values.specs.Kinds.{same_kind}
 use Rattle.values.specs.Rows.{row_of}
 use Rattle.values.specs.Values.{Val, integer}
-use Rattle.files.specs.Statements.{same_kinds}
+use Rattle.heads.specs.Exchanges.{same_kinds}
 
 pub four_rows : (vs : List Val) → length vs ≤ 4 → take (length vs) (row_of (get_or vs 0 (integer None)) ∷ row_of (get_or vs 1 (integer None)) ∷ row_of (get_or vs 2 (integer None)) ∷ row_of (get_or vs 3 (integer None)) ∷ []) ≡ map row_of vs
 four_rows [] h = refl

@@ -9,9 +9,9 @@ use Rattle.commands.specs.ByteLists.{Bytes}
 use Rattle.commands.specs.Depths.{stmt_depth}
 use Rattle.commands.specs.Stands.{StmtAt}
 use Rattle.commands.specs.Trees.{Stmt, Class}
-use Rattle.files.specs.Checked.{Checked}
+use Rattle.heads.specs.Checked.{Checked}
 use Rattle.files.specs.Files.{levels}
-use Rattle.files.specs.Statements.{same_kinds}
+use Rattle.heads.specs.Exchanges.{same_kinds}
 use Rattle.files.specs.Statements.{check_statement}
 use Rattle.parts.specs.Parts.{stmt_in}
 use Rattle.parts.proofs.Reading.{stmt_reads}

@@ -6,7 +6,7 @@ use Rattle.values.specs.Values.{kind_of}
 use Rattle.commands.specs.Depths.{stmt_depth}
 use Rattle.commands.specs.Trees.{Stmt, Class}
 use Rattle.files.specs.Files.{levels}
-use Rattle.files.specs.Statements.{same_kinds}
+use Rattle.heads.specs.Exchanges.{same_kinds}
 use Rattle.files.specs.Statements.{check_statement}
 use Rattle.parts.specs.Parts.{stmt_in}
 use Rattle.admission.specs.Read.{classes_in}

@@ -2,7 +2,7 @@
 ghost use Rattle.std.specs.Prelude.{◌≡◌, ◌≤◌, true, map, length, None, slice_index_or};
 ghost use Rattle.values.specs.Rows.{row_of};
 ghost use Rattle.values.specs.Values.{integer, kind_of};
-ghost use Rattle.files.specs.Statements.{same_kinds};
+ghost use Rattle.heads.specs.Exchanges.{same_kinds};
 ghost use Rattle.processes.specs.Evaluation.{values_of};
 ghost use Rattle.processes.specs.Found.{action_of};
 ghost use Rattle.listing.specs.Offers.{kind_places};

@@ -1,6 +1,5 @@
 use Rattle.std.proofs.Common.{ap, ◌∙◌}
-use Rattle.files.specs.Exchanges.{exchange_of}
-use Rattle.files.specs.Statements.{declared}
+use Rattle.heads.specs.Exchanges.{exchange_of, declared}
 use Rattle.classes.proofs.head.declares.Goals as goal
 
 pub declare-requires : goal.declare-requires

@@ -1,6 +1,6 @@
 use Rattle.std.proofs.Common.{map, sym, ap, ◌∙◌}
 use Rattle.values.specs.Values.{kind_of}
-use Rattle.files.specs.Statements.{same_kinds}
+use Rattle.heads.specs.Exchanges.{same_kinds}
 use Rattle.processes.specs.Evaluation.{values_of}
 use Rattle.steps.specs.Taking.{process_numbered, offered_front}
 use Rattle.tables.specs.Exchanging.{wanted_by}

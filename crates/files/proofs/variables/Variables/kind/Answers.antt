@@ -1,6 +1,0 @@
-use Rattle.std.proofs.Common.{rules}
-use Rattle.files.proofs.VariableKinds.{kind_where}
-use Rattle.files.proofs.variables.Variables.kind.Goals as goal
-
-pub returns : goal.returns
-returns c = kind_where _ c.args.file.now c.args.self.at _ _ c.then.ensures.variant (search rules)

@@ -1,0 +1,4 @@
+pub mod VariableKinds
+pub mod Repeating
+pub mod KindBytes
+pub mod Declaring

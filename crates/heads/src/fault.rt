@@ -1,0 +1,92 @@
+// The fault of a file that is refused.
+ghost use Rattle.std.specs.Prelude.{◌≡◌, Some};
+ghost use Rattle.heads.specs.Faults.{fault_number, layer_number};
+ghost use Rattle.heads.specs.Answers.{fault_text};
+
+use std::error::Error;
+use std::fmt;
+
+#[derive(Clone, Copy, PartialEq, Eq, Debug)]
+pub enum FaultKind {
+    // the length is outside 4 to 4,096
+    Length,
+    // a wrong byte among the first four
+    FirstBytes,
+    // a class or its head overruns, or a field of the head is out of bounds
+    ClassHead,
+    // a command unknown there, cut short, or with a wrong place; or bytes left over
+    Command,
+    // nested too deep
+    Depth,
+    // an operand out of bounds
+    Operand,
+    // a part of the wrong kind
+    PartKind,
+    // a SEND or RECV that its class does not declare
+    Undeclared,
+    // a statement with more than eight fronts
+    Fronts,
+    // a ninth PROC
+    Processes,
+}
+
+#[derive(Clone, Copy, PartialEq, Eq, Debug)]
+pub enum Layer {
+    File,
+    ClassHead,
+    Statement,
+    Expression,
+    Behaviour,
+}
+
+#[derive(Clone, Copy, PartialEq, Eq, Debug)]
+pub struct LoadFault {
+    pub kind: FaultKind,
+    pub place: usize,
+    pub layer: Layer,
+}
+
+impl From<FaultKind> for u8 {
+    ghost from_gives = { λ k n. n ≡ fault_number k };
+
+    fn from(kind: FaultKind) -> u8 {
+        match kind {
+            FaultKind::Length => 1,
+            FaultKind::FirstBytes => 2,
+            FaultKind::ClassHead => 3,
+            FaultKind::Command => 4,
+            FaultKind::Depth => 5,
+            FaultKind::Operand => 6,
+            FaultKind::PartKind => 7,
+            FaultKind::Undeclared => 8,
+            FaultKind::Fronts => 9,
+            FaultKind::Processes => 10,
+        }
+    }
+}
+
+impl From<Layer> for u8 {
+    ghost from_gives = { λ l n. n ≡ layer_number l };
+
+    fn from(layer: Layer) -> u8 {
+        match layer {
+            Layer::File => 1,
+            Layer::ClassHead => 2,
+            Layer::Statement => 3,
+            Layer::Expression => 4,
+            Layer::Behaviour => 5,
+        }
+    }
+}
+
+impl fmt::Display for LoadFault {
+    ghost output = { λ x. Some (fault_text x) };
+
+    fn fmt<W: fmt::Write>(&self, f: &mut fmt::Formatter<W>) -> fmt::Result {
+        let number = u8::from(self.kind);
+        let layer = u8::from(self.layer);
+        write!(f, "refused {number} place {} layer {layer}", self.place)
+    }
+}
+
+impl Error for LoadFault {}
