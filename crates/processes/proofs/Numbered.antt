@@ -39,4 +39,4 @@ numbered vs n (branch e a b) rest = two_ways (eval e vs) n (front n internal (a 
 numbered vs n (loop e a) rest = two_ways (eval e vs) n (front n internal (a ∷ loop e a ∷ rest)) (front (n + 1) internal rest) refl refl
 
 pub laws : FrontLaws
-laws = record { numbered = numbered; waiting = fronts_and_waiting; classes = class_laws; process_stands = process_stands; unknown_guard = λ vs s rest. refl }
+laws = record { numbered = numbered; waiting = fronts_and_waiting; classes = class_laws; process_stands = process_stands; unknown_guard = λ vs s rest. refl; closed_first = λ vs n e a b rest h. rw h }
