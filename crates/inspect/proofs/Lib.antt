@@ -1,2 +1,3 @@
 pub mod Offering
 pub mod Counting
+pub mod Words
