@@ -24,3 +24,7 @@ abbrev pub expression_text : ExpressionCommand → List ℕ
 expression_text (LeafC l) = leaf_text l
 expression_text (Binary op place) = op_name op
 expression_text Not = codes "NOT"
+
+-- a number with a space before it
+abbrev pub spaced : ℕ → List ℕ
+spaced n = codes " " ++ decimal n

@@ -1,6 +1,7 @@
 // Commands as text.
 ghost use Rattle.std.specs.Prelude.{Some};
-ghost use Rattle.commands.specs.Texts.{leaf_text, expression_text};
+ghost use Rattle.std.specs.List.{flat_map};
+ghost use Rattle.commands.specs.Texts.{leaf_text, expression_text, spaced};
 
 use crate::behaviour::BehaviourCommand;
 use crate::expression::{ExpressionCommand, Leaf};
@@ -40,6 +41,8 @@ impl fmt::Display for ExpressionCommand {
 pub struct Spaced<'a>(pub &'a [u8]);
 
 impl fmt::Display for Spaced<'_> {
+    ghost output = { λ s. Some (flat_map spaced s.0.now) };
+
     fn fmt<W: fmt::Write>(&self, f: &mut fmt::Formatter<W>) -> fmt::Result {
         for number in self.0 {
             write!(f, " {number}")?;

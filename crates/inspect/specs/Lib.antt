@@ -1,2 +1,4 @@
 pub mod Offers
+pub mod Lines
+pub mod Answers
 pub mod Words

@@ -1,6 +1,11 @@
 // The command `check`: whether a model file is admitted.
+ghost use Rattle.std.specs.Prelude.{◌≡◌, IfOk};
+ghost use Rattle.admission.specs.Read.{read};
+ghost use Rattle.inspect.specs.Answers.{check_answer};
+
 use crate::digits::bytes_of;
 use admission::load::examine;
+use std::alloc::{AllocError, Global};
 
 // Answers for the bytes that words write, or says why they write none.
 // The host is passed beside the bytes everywhere: it is what may be done, not data.
@@ -18,12 +23,18 @@ pub fn answer_bytes<F: FnOnce(&HostRuntime, &[u8]) -> anyhow::Result<()>>(
     Ok(())
 }
 
-// Answers for the bytes of a file; a fault is an answer too, so it is printed and not passed up.
-pub fn print_check(rt: &HostRuntime, file: &[u8]) -> anyhow::Result<()> {
+// The answer for the bytes of a file: what loading needs of it, or its first fault, which is an answer too.
+pub fn check_answer(heap: Global, file: &[u8]) -> Result<String, AllocError>
+    ensures { IfOk result (λ text. text.bytes.items ≡ check_answer (read file.now)) }
+{
     match examine(file) {
-        Ok(summary) => println!(rt; "{summary}")?,
-        Err(fault) => println!(rt; "{fault}")?,
+        Ok(summary) => summary.to_string(heap),
+        Err(fault) => fault.to_string(heap),
     }
+}
+
+pub fn print_check(rt: &HostRuntime, file: &[u8]) -> anyhow::Result<()> {
+    rt.println(check_answer(rt.alloc(), file)?)?;
     Ok(())
 }
 

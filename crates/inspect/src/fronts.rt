@@ -8,13 +8,11 @@ ghost use Rattle.classes.specs.Starts.{FreshOf};
 ghost use Rattle.inspect.specs.Offers.{first_fronts};
 
 use crate::check::{answer_bytes, print_check};
+use crate::line::Line;
 use admission::load::examine;
 use classes::fresh::Fresh;
-use commands::text::Spaced;
 use processes::finding::front_of_places;
-use processes::front::{Action, Front};
-use std::fmt;
-use values::row::Row;
+use processes::front::Front;
 
 // The front of a number of a fresh process; none where it does not offer it.
 // File and process are no struct with a ghost field: such a fact has to have one proof at most, and this one names a class.
@@ -46,54 +44,6 @@ fn count_fronts(file: &[u8], process: Fresh) -> u8
         }
     }
     count
-}
-
-// A front by its number, as a line.
-#[derive(Drop)]
-struct Line {
-    number: u8,
-    front: Front,
-}
-
-fn write_send<W: fmt::Write>(
-    f: &mut fmt::Formatter<W>,
-    channel: u8,
-    message: u8,
-    values: &[Row],
-) -> fmt::Result {
-    write!(f, "send {channel} {message}")?;
-    for row in values {
-        write!(f, " {}", row.value())?;
-    }
-    Ok(())
-}
-
-// A function, since a type of another crate can have no Display here.
-fn write_action<W: fmt::Write>(f: &mut fmt::Formatter<W>, action: &Action) -> fmt::Result {
-    match action {
-        Action::Internal => write!(f, "internal"),
-        Action::Store(variable, row) => write!(f, "set {variable} {}", row.value()),
-        Action::Send(channel, message, sent) => write_send(f, *channel, *message, sent.as_slice()),
-        Action::Receive(channel, message, targets) => {
-            let into = Spaced(targets.as_slice());
-            write!(f, "receive {channel} {message}{into}")
-        }
-    }
-}
-
-impl fmt::Display for Line {
-    fn fmt<W: fmt::Write>(&self, f: &mut fmt::Formatter<W>) -> fmt::Result {
-        write!(f, "{} ", self.number)?;
-        write_action(f, &self.front.action)?;
-        write!(f, " leaves")?;
-        // what remains is stored last first, and `split` alone takes it apart in order
-        let mut left = self.front.leaves;
-        while let Some((place, rest)) = left.split() {
-            write!(f, " {place}")?;
-            left = rest;
-        }
-        Ok(())
-    }
 }
 
 fn print_class(rt: &HostRuntime, file: &[u8], class: u8) -> anyhow::Result<()>

@@ -4,3 +4,4 @@
 pub mod check;
 pub mod digits;
 pub mod fronts;
+pub mod line;

@@ -1,7 +1,8 @@
 // The command `steps`: the steps that an admitted file permits at its start.
-ghost use Rattle.std.specs.Prelude.{◌≡◌, ◌≤◌, Err, IfErr, is_ok, if◌then◌else◌};
+ghost use Rattle.std.specs.Prelude.{◌≡◌, ◌≤◌, Some, Err, IfOk, IfErr, is_ok, if◌then◌else◌};
 ghost use Rattle.admission.specs.Read.{read};
 ghost use Rattle.records.specs.Lists.{items, room_of};
+ghost use Rattle.starts.specs.Answers.{listing_text, steps_answer};
 ghost use Rattle.starts.specs.Firsts.{first_steps};
 
 use heads::fault::LoadFault;
@@ -9,6 +10,8 @@ use inspect::check::answer_bytes;
 use models::model::{MOST_STEPS, Model};
 use records::list::RecordList;
 use records::step::Step;
+use std::alloc::{AllocError, Global};
+use std::fmt;
 
 // Writes the steps of an admitted file at its start; any other is refused with its first fault, and nothing altered.
 fn list_first(file: &[u8], out: &mut RecordList<'_, Step>) -> Result<(), LoadFault>
@@ -23,22 +26,37 @@ fn list_first(file: &[u8], out: &mut RecordList<'_, Step>) -> Result<(), LoadFau
     Ok(())
 }
 
-fn print_list(rt: &HostRuntime, list: &[Step]) -> anyhow::Result<()> {
-    let count = list.len();
-    println!(rt; "listed {count}")?;
-    for step in list {
-        println!(rt; "{step}")?;
+// A list of steps, as the command writes it.
+#[derive(Clone, Copy)]
+pub struct Listing<'a>(pub &'a [Step]);
+
+impl fmt::Display for Listing<'_> {
+    ghost output = { λ l. Some (listing_text l.0.now) };
+
+    fn fmt<W: fmt::Write>(&self, f: &mut fmt::Formatter<W>) -> fmt::Result {
+        let count = self.0.len();
+        write!(f, "listed {count}")?;
+        for step in self.0 {
+            write!(f, "\n{step}")?;
+        }
+        Ok(())
     }
-    Ok(())
 }
 
-fn print_steps(rt: &HostRuntime, file: &[u8]) -> anyhow::Result<()> {
+// The answer for the bytes of a file: the steps at its start, or its first fault.
+pub fn answer(heap: Global, file: &[u8]) -> Result<String, AllocError>
+    ensures { IfOk result (λ text. text.bytes.items ≡ steps_answer (read file.now)) }
+{
     let mut memory = [Step::internal(0, 0); MOST_STEPS];
     let mut table = RecordList::new(&mut memory);
     match list_first(file, &mut table) {
-        Ok(()) => print_list(rt, table.all())?,
-        Err(fault) => println!(rt; "{fault}")?,
+        Ok(()) => Listing(table.all()).to_string(heap),
+        Err(fault) => fault.to_string(heap),
     }
+}
+
+fn print_steps(rt: &HostRuntime, file: &[u8]) -> anyhow::Result<()> {
+    rt.println(answer(rt.alloc(), file)?)?;
     Ok(())
 }
 
