@@ -5,7 +5,8 @@ use Rattle.std.proofs.lemmas.List.FromFn.{get_or-map-range_with_len}
 use Rattle.commands.specs.Stands.{BehaviourAt}
 use Rattle.commands.specs.Trees.{Behaviour, process, parallel, hide, rename}
 use Rattle.admission.specs.Conditions.{BehaviourKept, processes}
-use Rattle.arrivals.specs.Climbing.{in_set, side_of, by_side, past_hide, past_rename, climb, meeting_channel, arrival, arrival_entry, arrival_table, arrival_in, KeptAt}
+use Rattle.commands.specs.Sets.{in_set}
+use Rattle.arrivals.specs.Climbing.{side_of, by_side, past_hide, past_rename, climb, meeting_channel, arrival, arrival_entry, arrival_table, arrival_in, KeptAt}
 use Rattle.arrivals.specs.declared.travel.Side.{Side}
 use Rattle.arrivals.specs.declared.travel.Side.TheVariants.{First, Second}
 use Rattle.arrivals.specs.Laws.{TableLaws}

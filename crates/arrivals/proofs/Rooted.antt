@@ -3,7 +3,8 @@ use Rattle.std.proofs.Common.{◌≡◌, ℕ, Bool, true, false, cond, eqb, List
 use borrow.Author.Tests.{eqb-false}
 use Rattle.commands.specs.Trees.{Behaviour, process, parallel, hide, rename}
 use Rattle.admission.specs.Conditions.{processes}
-use Rattle.arrivals.specs.Climbing.{in_set, side_of, by_side, past_hide, past_rename, climb}
+use Rattle.commands.specs.Sets.{in_set}
+use Rattle.arrivals.specs.Climbing.{side_of, by_side, past_hide, past_rename, climb}
 use Rattle.arrivals.specs.declared.travel.Side.{Side}
 use Rattle.arrivals.specs.declared.travel.Side.TheVariants.{First, Second}
 use Rattle.arrivals.specs.Laws.{RootLaws}

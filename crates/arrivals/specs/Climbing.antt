@@ -1,15 +1,12 @@
 -- How a channel travels up a behaviour.
-use Rattle.std.specs.Prelude.{ℕ, ◌+◌, ◌-◌, ◌*◌, ◌/◌, ◌%◌, ◌^◌, ◌≤◌, Bool, cond, ◌&&◌, List, map, Some, None, Option, ◌==◌, nat_lt, slice_index_or}
+use Rattle.std.specs.Prelude.{ℕ, ◌+◌, ◌-◌, ◌*◌, ◌/◌, ◌%◌, ◌≤◌, cond, ◌&&◌, List, map, Some, None, Option, ◌==◌, nat_lt, slice_index_or}
 use Rattle.std.specs.List.{range_with_len}
+use Rattle.commands.specs.Sets.{in_set}
 use Rattle.commands.specs.Stands.{BehaviourAt}
 use Rattle.commands.specs.Trees.{Behaviour, process, parallel, hide, rename}
 use Rattle.admission.specs.Conditions.{BehaviourKept, processes}
 use Rattle.arrivals.specs.declared.travel.Side.{Side}
 use Rattle.arrivals.specs.declared.travel.Side.TheVariants.{First, Second}
-
--- bit c of a set of channels
-abbrev pub in_set : ℕ → ℕ → Bool
-in_set s c = s / 2 ^ c % 2 == 1
 
 -- what comes out of a HIDE and of a RENAME, given what arrives below it
 abbrev pub past_hide : ℕ → Option ℕ → Option ℕ

@@ -2,7 +2,8 @@
 use Rattle.std.specs.Prelude.{◌≡◌, ℕ, ◌+◌, ◌-◌, ◌<◌, ◌≤◌, false, ◌⊎◌, List, [], ◌∷◌, ◌++◌, ◌≢◌}
 use Rattle.commands.specs.Trees.{Behaviour, process, parallel, hide, rename}
 use Rattle.admission.specs.Conditions.{processes}
-use Rattle.arrivals.specs.Climbing.{in_set, side_of, by_side}
+use Rattle.commands.specs.Sets.{in_set}
+use Rattle.arrivals.specs.Climbing.{side_of, by_side}
 
 -- a command on the way
 pub data Passed : Type 0 where

@@ -5,17 +5,11 @@ ghost use Rattle.std.specs.Prelude.{◌≡◌, ℕ, ◌<◌, ◌≤◌, IfSome};
 ghost use Rattle.commands.specs.Stands.{BehaviourAt};
 ghost use Rattle.commands.specs.Trees.{Behaviour};
 ghost use Rattle.admission.specs.Conditions.{processes};
-ghost use Rattle.arrivals.specs.Climbing.{in_set, side_of, past_hide, past_rename, climb, meeting_channel, KeptAt};
+ghost use Rattle.arrivals.specs.Climbing.{side_of, past_hide, past_rename, climb, meeting_channel, KeptAt};
 
 use commands::behaviour::BehaviourCommand;
 use commands::command::read;
-
-// Whether a set of channels has this one.
-fn in_set(set: u32, channel: u8) -> bool
-    ensures { result ≡ in_set set channel }
-{
-    channel < 32 && (set >> channel) % 2 == 1
-}
+use commands::set::in_set;
 
 // What comes out of a HIDE, given what arrives below it.
 fn past_hide(set: u32, below: Option<u8>) -> Option<u8>

@@ -5,3 +5,4 @@ pub mod Decoded
 pub mod Nodes
 pub mod Unique
 pub mod Cuts
+pub mod Channels

@@ -8,4 +8,5 @@ pub mod Bytes
 pub mod Stands
 pub mod ByteLists
 pub mod Ranges
+pub mod Sets
 pub mod Texts

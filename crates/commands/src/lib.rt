@@ -5,5 +5,6 @@ pub mod behaviour;
 pub mod bytes;
 pub mod command;
 pub mod expression;
+pub mod set;
 pub mod statement;
 pub mod text;

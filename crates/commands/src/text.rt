@@ -1,12 +1,14 @@
 // Commands as text.
 ghost use Rattle.std.specs.Prelude.{Some};
 ghost use Rattle.std.specs.List.{flat_map};
-ghost use Rattle.commands.specs.Texts.{leaf_text, expression_text, spaced};
+ghost use Rattle.commands.specs.Texts.{leaf_text, expression_text, spaced, statement_text, channels_text, behaviour_text};
 
 use crate::behaviour::BehaviourCommand;
 use crate::expression::{ExpressionCommand, Leaf};
+use crate::set::in_set;
 use crate::statement::StatementCommand;
 use std::fmt;
+use values::few::Few;
 
 impl fmt::Display for Leaf {
     ghost output = { λ l. Some (leaf_text l) };
@@ -53,6 +55,8 @@ impl fmt::Display for Spaced<'_> {
 
 // Without its place and its parts.
 impl fmt::Display for StatementCommand {
+    ghost output = { λ c. Some (statement_text c) };
+
     fn fmt<W: fmt::Write>(&self, f: &mut fmt::Formatter<W>) -> fmt::Result {
         match self {
             StatementCommand::Skip => write!(f, "SKIP"),
@@ -61,7 +65,8 @@ impl fmt::Display for StatementCommand {
                 write!(f, "SEND channel {channel} message {message}")
             }
             StatementCommand::Recv(channel, message, count, variables) => {
-                let into = Spaced(&variables[..(*count).min(4) as usize]);
+                let used = Few::first(*variables, *count as usize);
+                let into = Spaced(used.as_slice());
                 write!(f, "RECV channel {channel} message {message} into{into}")
             }
             StatementCommand::Seq(_) => write!(f, "SEQ"),
@@ -73,22 +78,35 @@ impl fmt::Display for StatementCommand {
     }
 }
 
-// The channels of a HIDE, ascending.
-fn write_hide<W: fmt::Write>(f: &mut fmt::Formatter<W>, set: u32) -> fmt::Result {
-    write!(f, "HIDE")?;
-    for channel in (0..32u32).filter(|channel| (set >> *channel) & 1 == 1) {
-        write!(f, " {channel}")?;
+// The channels of a set, ascending, with a space before each.
+#[derive(Clone, Copy)]
+struct Channels(u32);
+
+impl fmt::Display for Channels {
+    ghost output = { λ s. Some (channels_text s.0) };
+
+    fn fmt<W: fmt::Write>(&self, f: &mut fmt::Formatter<W>) -> fmt::Result {
+        for channel in 0..32u8 {
+            if in_set(self.0, channel) {
+                write!(f, " {channel}")?;
+            }
+        }
+        Ok(())
     }
-    Ok(())
 }
 
 // Without its place and its parts.
 impl fmt::Display for BehaviourCommand {
+    ghost output = { λ c. Some (behaviour_text c) };
+
     fn fmt<W: fmt::Write>(&self, f: &mut fmt::Formatter<W>) -> fmt::Result {
         match self {
             BehaviourCommand::Proc(class) => write!(f, "PROC class {class}"),
             BehaviourCommand::Par(_) => write!(f, "PAR"),
-            BehaviourCommand::Hide(set) => write_hide(f, *set),
+            BehaviourCommand::Hide(set) => {
+                let channels = Channels(*set);
+                write!(f, "HIDE{channels}")
+            }
             BehaviourCommand::Rename(from, to) => write!(f, "RENAME {from} to {to}"),
         }
     }

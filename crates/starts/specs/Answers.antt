@@ -1,5 +1,5 @@
 -- What the command `steps` answers.
-use Rattle.std.specs.Prelude.{ℕ, List, ◌∷◌, ◌++◌, length, Ok, Err, codes, decimal}
+use Rattle.std.specs.Prelude.{ℕ, List, ◌++◌, length, Ok, Err, codes, decimal}
 use Rattle.std.specs.List.{flat_map}
 use Rattle.commands.specs.Trees.{File}
 use Rattle.heads.specs.Checked.{Checked}

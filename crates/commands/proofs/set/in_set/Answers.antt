@@ -1,6 +1,6 @@
 use Rattle.std.proofs.Common.{◌<◌, ◌≤◌, ◌^◌, arith, le-ltb}
 use Rattle.std.proofs.Math.Nat.{pow-le-pow_right, div-eq_of_lt}
-use Rattle.arrivals.proofs.travel.in_set.Goals as goal
+use Rattle.commands.proofs.set.in_set.Goals as goal
 
 -- a channel past the last bit is in no set
 pub returns-else-channel-lt32 : goal.returns-else-channel-lt32
