@@ -38,6 +38,12 @@ module _ (f : List ℕ) (at n : ℕ) where
   pub target_kept : (u : Behaviour) (x y : ℕ) (a : Behaviour) → u ≡ rename x y a → KeptAt f at n u → y < 32
   target_kept u x y a e k = target_by x y a (subst (λ v. KeptAt f at n v) e k)
 
+  turned_by : (x y : ℕ) (a : Behaviour) → KeptAt f at n (rename x y a) → (x < 32) × (y < 32)
+  turned_by x y a k = (k.kept.0, k.kept.1)
+
+  pub turned_kept : (u : Behaviour) (x y : ℕ) (a : Behaviour) → u ≡ rename x y a → KeptAt f at n u → (x < 32) × (y < 32)
+  turned_kept u x y a e k = turned_by x y a (subst (λ v. KeptAt f at n v) e k)
+
 -- the two parts of a PAR
 pub first_side : (p n : ℕ) → p < n → First p ≡ side_of p n
 first_side p n h = rw (lt-ltb p n h)

@@ -1,5 +1,11 @@
 pub mod Below
+pub mod ByteForms
+pub mod Columns
+pub mod Complete
 pub mod Entries
+pub mod Filled
+pub mod Last
 pub mod Rooted
+pub mod Rows
 pub mod Lookups
 pub mod Meeting

@@ -11,16 +11,16 @@ use Rattle.arrivals.proofs.Rooted.{passes, is_passed, none_left}
 
 -- the two parts of a PAR, by the numbers of the processes
 module _ (u a b : Behaviour) (e : u ≡ parallel a b) (p q c : ℕ) where
-  first_met : p < processes a → q < processes a → meeting_channel u p q c ≡ meeting_channel a p q c
+  pub first_met : p < processes a → q < processes a → meeting_channel u p q c ≡ meeting_channel a p q c
   first_met h k = sym (meet_first u a b e (processes a) refl p q c p q _ (first_side p (processes a) h) (first_side q (processes a) k) refl)
 
-  upward_met : p < processes a → processes a ≤ q → meeting_channel u p q c ≡ climb a p c
+  pub upward_met : p < processes a → processes a ≤ q → meeting_channel u p q c ≡ climb a p c
   upward_met h k = sym (meet_upward u a b e (processes a) refl p q c p (q - processes a) _ (first_side p (processes a) h) (second_side q (processes a) k) refl)
 
-  downward_met : processes a ≤ p → q < processes a → meeting_channel u p q c ≡ climb b (p - processes a) c
+  pub downward_met : processes a ≤ p → q < processes a → meeting_channel u p q c ≡ climb b (p - processes a) c
   downward_met h k = sym (meet_downward u a b e (processes a) refl p q c (p - processes a) q _ (second_side p (processes a) h) (first_side q (processes a) k) refl)
 
-  second_met : processes a ≤ p → processes a ≤ q → meeting_channel u p q c ≡ meeting_channel b (p - processes a) (q - processes a) c
+  pub second_met : processes a ≤ p → processes a ≤ q → meeting_channel u p q c ≡ meeting_channel b (p - processes a) (q - processes a) c
   second_met h k = sym (meet_second u a b e (processes a) refl p q c (p - processes a) (q - processes a) _ (second_side p (processes a) h) (second_side q (processes a) k) refl)
 
 -- the processes of a part are processes of the whole
@@ -132,7 +132,7 @@ downward a b p q c d l r s e =
       arrives = inr (record { from = omega arith; below = omega arith }, record { from = omega arith; below = omega arith }, out_moved b (p - processes a) (p - (0 + processes a)) c d (omega arith) (passes b (p - processes a) c d e));
     }
 
-side : (x y : ℕ) → (x < y) ⊎ (y ≤ x)
+pub side : (x y : ℕ) → (x < y) ⊎ (y ≤ x)
 side x y = ⊎_elim (λ h. inl h.1) (λ h. inr (omega arith)) (leb_tells (suc x) y)
 
 arrives : (b : Behaviour) (p q c d : ℕ) → p < processes b → q < processes b → meeting_channel b p q c ≡ Some d → MeetsAs b p q c d

@@ -1,3 +1,5 @@
+pub mod Bytes
 pub mod Climbing
+pub mod Filling
 pub mod Ways
 pub mod Laws

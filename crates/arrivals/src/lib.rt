@@ -2,5 +2,6 @@
 #![tactic(auto)]
 
 pub mod facts;
+mod filling;
 pub mod table;
 pub mod travel;

@@ -2,33 +2,41 @@
 ghost use Rattle.std.specs.Prelude.{◌≡◌, ℕ, ◌<◌, replicate, None};
 ghost use Rattle.commands.specs.Stands.{BehaviourAt};
 ghost use Rattle.commands.specs.Trees.{Behaviour};
+ghost use Rattle.arrivals.specs.Bytes.{channel_of};
 ghost use Rattle.arrivals.specs.Climbing.{arrival_entry, arrival_table, arrival_in, meeting_in, KeptAt};
 
-use crate::travel::{climb, meeting_channel};
+use crate::filling::{NONE, repeat_last, walk};
+use std::marker::Model;
 
 // Where to, for what leaves the model: the last column of the table, behind those of the processes.
 const OUTSIDE: u8 = 8;
 
 // As what each of 32 channels of 8 processes arrives at each of 9 places where to, if it does.
+// In memory each is a byte, 255 for none.
 #[derive(Clone, Copy)]
 pub struct Arrivals {
-    channels: [Option<u8>; 2304],
+    bytes: [u8; 2304],
 }
 
-// What stands at an index of the table. File and place stay two parameters, as in the module `travel`.
-fn entry(file: &[u8], at: usize, index: usize) -> Option<u8>
-    requires stands { (n : ℕ) × (b : Behaviour) × KeptAt file.now at n b }
-    requires within { index < 2304 }
-    ensures { (b : Behaviour) → BehaviourAt file.now at b → result ≡ arrival_entry b index }
+impl Model for Arrivals {
+    ghost use Rattle.std.specs.Prelude.{map};
+    ghost use Rattle.std.proofs.Common.{ap};
+    ghost use Rattle.arrivals.specs.Bytes.{Entries, channel_of, byte_of, bytes_of_channels};
+
+    ghost Value = { Entries };
+
+    ghost view = { λ a. record { channels = map channel_of a.bytes } };
+
+    ghost inverse = { λ e. record { bytes = map byte_of e.channels } };
+
+    ghost inverse_ok = { λ a h. ap (λ x. record { bytes = x }) (bytes_of_channels a.bytes) };
+}
+
+// The channel that a byte stands for.
+fn channel_of(byte: u8) -> Option<u8>
+    ensures { result ≡ channel_of byte }
 {
-    let channel = (index % 32) as u8;
-    let to = (index / 32 % 9) as u8;
-    let process = (index / 32 / 9) as u8;
-    if to == OUTSIDE {
-        climb(file, at, process, channel)
-    } else {
-        meeting_channel(file, at, process, to, channel)
-    }
+    if byte == NONE { None } else { Some(byte) }
 }
 
 impl Arrivals {
@@ -38,7 +46,7 @@ impl Arrivals {
         ensures empty { (p to c : ℕ) → arrival_in result.channels p to c ≡ None }
     {
         Arrivals {
-            channels: [None; 2304],
+            bytes: [NONE; 2304],
         }
     }
 
@@ -47,12 +55,10 @@ impl Arrivals {
         requires { (n : ℕ) × (b : Behaviour) × KeptAt file.now at n b }
         ensures { (b : Behaviour) → BehaviourAt file.now at b → result.channels ≡ arrival_table b }
     {
-        let mut channels = [None; 2304];
-        // a loop: a closure for `from_fn` would have to ask what `entry` asks
-        for (index, channel) in channels.iter_mut().enumerate() {
-            *channel = entry(file, at, index);
-        }
-        Arrivals { channels }
+        let mut bytes = [NONE; 2304];
+        let count = walk(file, at, 0, &mut bytes);
+        repeat_last(&mut bytes, count);
+        Arrivals { bytes }
     }
 
     // Where to is a process, or 8 for outside.
@@ -61,7 +67,7 @@ impl Arrivals {
     {
         if process < 8 && to < 9 && channel < 32 {
             let index = (process as usize * 9 + to as usize) * 32 + channel as usize;
-            self.channels[index]
+            channel_of(self.bytes[index])
         } else {
             None
         }

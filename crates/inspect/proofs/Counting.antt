@@ -8,7 +8,7 @@ use Rattle.processes.specs.Fronts.{Front}
 use Rattle.processes.specs.Laws.{Ascend}
 use Rattle.processes.proofs.Ascending.{ascend_short, ascend_below, none_before}
 use Rattle.processes.proofs.Kept.{few_fronts}
-use Rattle.processes.proofs.Numbered.{numbered}
+use Rattle.processes.proofs.Numbered.{numbered_before}
 use Rattle.classes.specs.declared.fresh.Fresh.{Fresh}
 use Rattle.classes.specs.Starts.{FreshOf}
 use Rattle.inspect.specs.Offers.{first_fronts}
@@ -25,7 +25,7 @@ counted_start f c p h =
     let few = few_fronts _ _ c.statement h.process.class_kept.statement_kept in
     record {
       rest = first_fronts c;
-      ascend = ascend_below 0 (0 + most_fronts c.statement) 8 (first_fronts c) (omega (arith, few)) (numbered c.variables 0 c.statement []);
+      ascend = ascend_below 0 (0 + most_fronts c.statement) 8 (first_fronts c) (omega (arith, few)) (numbered_before c.variables 0 c.statement []);
       same = λ k l. refl;
       many = omega arith;
     }

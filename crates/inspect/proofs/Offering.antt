@@ -18,7 +18,7 @@ stands f c p h = process_stands f p.left c.variables c (c.statement ∷ []) h.pr
 
 module _ (f : List ℕ) (p : Fresh) (r : Option FrontC) (n : ℕ) where
   -- an answer over the rows of the variables, over the class's values
-  pub over_values : (c : Class) (rows : List Row) → rows ≡ take p.variables p.rows → FreshOf f c p → ((ks : List Kind) (ds : List Declaration) (ss : List Stmt) → Standing f p.left ks ds ss → Answers f r (front_numbered n (process_fronts (values_of rows) ss))) → Answers f r (front_numbered n (first_fronts c))
+  pub over_values : (c : Class) (rows : List Row) → rows ≡ take p.variables p.rows → FreshOf f c p → ((ks : List Kind) (ds : List Declaration) (ss : List Stmt) → Standing f p.left ks ds ss → Answers f (values_of rows) r (front_numbered n (process_fronts (values_of rows) ss))) → Answers f c.variables r (front_numbered n (first_fronts c))
   over_values c rows e h found =
       let same : values_of rows ≡ c.variables = ap values_of e ∙ h.values in
-      subst (λ vs. Answers f r (front_numbered n (process_fronts vs (c.statement ∷ [])))) same (found _ _ _ (stands f c p h))
+      subst (λ vs. Answers f vs r (front_numbered n (process_fronts vs (c.statement ∷ [])))) same (found _ _ _ (stands f c p h))

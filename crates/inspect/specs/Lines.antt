@@ -4,17 +4,20 @@ use Rattle.std.specs.List.{flat_map}
 use Rattle.values.specs.Texts.{text_of}
 use Rattle.values.specs.Values.{Val}
 use Rattle.commands.specs.Texts.{spaced}
-use Rattle.processes.specs.Fronts.{Action, internal, store, sends, receives}
+use Rattle.values.specs.Rows.{value_of_row}
+use Rattle.processes.specs.declared.front.Action.{Action}
+use Rattle.processes.specs.declared.front.Action.TheVariants.{Internal, Store, Send, Receive}
+use Rattle.processes.specs.Found.{values_in, variables_in}
 
 -- a value with a space before it
 abbrev pub value_word : Val → List ℕ
 value_word v = codes " " ++ text_of v
 
 abbrev pub action_text : Action → List ℕ
-action_text internal = codes "internal"
-action_text (store v x) = codes "set " ++ (decimal v ++ value_word x)
-action_text (sends c m xs) = codes "send " ++ (decimal c ++ (spaced m ++ flat_map value_word xs))
-action_text (receives c m ws) = codes "receive " ++ (decimal c ++ (spaced m ++ flat_map spaced ws))
+action_text Internal = codes "internal"
+action_text (Store v row) = codes "set " ++ (decimal v ++ value_word (value_of_row row))
+action_text (Send c m s) = codes "send " ++ (decimal c ++ (spaced m ++ flat_map value_word (values_in s)))
+action_text (Receive c m t) = codes "receive " ++ (decimal c ++ (spaced m ++ flat_map spaced (variables_in t)))
 
 -- its number, what it does, and the places of the statements that it leaves
 abbrev pub line_text : ℕ → Action → List ℕ → List ℕ

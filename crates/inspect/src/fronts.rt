@@ -18,7 +18,7 @@ use processes::front::Front;
 // File and process are no struct with a ghost field: such a fact has to have one proof at most, and this one names a class.
 fn first_front(file: &[u8], process: Fresh, number: u8) -> Option<Front>
     requires { (c : Class) × FreshOf file.now c process }
-    ensures { (c : Class) → FreshOf file.now c process → Answers file.now result (front_numbered number (first_fronts c)) }
+    ensures { (c : Class) → FreshOf file.now c process → Answers file.now c.variables result (front_numbered number (first_fronts c)) }
 {
     let variables = &process.rows[..process.variables as usize];
     front_of_places(file, process.left, variables, number)

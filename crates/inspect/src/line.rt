@@ -2,7 +2,7 @@
 ghost use Rattle.std.specs.Prelude.{Some};
 ghost use Rattle.std.specs.List.{flat_map};
 ghost use Rattle.commands.specs.Texts.{spaced};
-ghost use Rattle.processes.specs.Found.{action_of, values_in};
+ghost use Rattle.processes.specs.Found.{values_in};
 ghost use Rattle.processes.specs.Places.{places_of};
 ghost use Rattle.inspect.specs.Lines.{value_word, action_text, line_text};
 
@@ -39,7 +39,7 @@ impl fmt::Display for Values {
 struct Does(Action);
 
 impl fmt::Display for Does {
-    ghost output = { λ d. Some (action_text (action_of d.0)) };
+    ghost output = { λ d. Some (action_text d.0) };
 
     fn fmt<W: fmt::Write>(&self, f: &mut fmt::Formatter<W>) -> fmt::Result {
         match &self.0 {
@@ -79,7 +79,7 @@ impl fmt::Display for Places {
 }
 
 impl fmt::Display for Line {
-    ghost output = { λ l. Some (line_text l.number (action_of l.front.action) (places_of l.front.leaves)) };
+    ghost output = { λ l. Some (line_text l.number l.front.action (places_of l.front.leaves)) };
 
     fn fmt<W: fmt::Write>(&self, f: &mut fmt::Formatter<W>) -> fmt::Result {
         let number = self.number;

@@ -7,7 +7,7 @@ use Rattle.values.specs.Kinds.{same_kind}
 use Rattle.values.specs.Values.{Val, integer, kind_of}
 use Rattle.commands.specs.Trees.{Behaviour}
 use Rattle.heads.specs.Exchanges.{same_kinds}
-use Rattle.processes.specs.Fronts.{Action, internal, store, sends, receives}
+use Rattle.processes.specs.Fronts.{Action, internal, sends, receives}
 use Rattle.records.specs.declared.step.Step.{Step}
 use Rattle.records.specs.Lists.{optional}
 use Rattle.records.specs.Steps as step
@@ -50,7 +50,6 @@ module _ (b : Behaviour) (t : List (Option ℕ)) (arrives : ArrivesBy t b) where
     where
       go : (p n : ℕ) (vs : List Val) (a : Action) → internal_steps (seen p n vs a) ≡ internal_by p n a
       go p n vs internal = refl
-      go p n vs (store v x) = refl
       go p n vs (sends c m xs) = refl
       go p n vs (receives c m ws) = refl
 
@@ -59,7 +58,6 @@ module _ (b : Behaviour) (t : List (Option ℕ)) (arrives : ArrivesBy t b) where
     where
       go : (p n : ℕ) (vs : List Val) (a : Action) → p < 8 → HoldableAction a → outside_sends t (seen p n vs a) ≡ send_by b p n a
       go p n vs internal l h = refl
-      go p n vs (store v x) l h = refl
       go p n vs (sends c m xs) l h = over_passing _ _ ∙ ap (λ o. over o (λ k. step.outside_send p n k m)) (arrives.passes p c l h.0)
       go p n vs (receives c m ws) l h = refl
 
@@ -68,7 +66,6 @@ module _ (b : Behaviour) (t : List (Option ℕ)) (arrives : ArrivesBy t b) where
     where
       go : (p n : ℕ) (vs : List Val) (a : Action) → p < 8 → HoldableAction a → outside_receives t (seen p n vs a) ≡ receive_by b p n a
       go p n vs internal l h = refl
-      go p n vs (store v x) l h = refl
       go p n vs (sends c m xs) l h = refl
       go p n vs (receives c m ws) l h = over_passing _ _ ∙ ap (λ o. over o (λ k. step.outside_receive p n k m)) (arrives.passes p c l h.0)
 
@@ -95,13 +92,11 @@ module _ (b : Behaviour) (t : List (Option ℕ)) (arrives : ArrivesBy t b) where
 
   abbrev pair_meets : steps.Offer → steps.Offer → Action → Action → List Step
   pair_meets s r internal a' = []
-  pair_meets s r (store v x) a' = []
   pair_meets s r (sends c m xs) a' = receive_meets b s r c m (map kind_of xs) a'
   pair_meets s r (receives c m ws) a' = []
 
   pair_is : (s r : steps.Offer) (a : Action) → pair_meets s r a r.front.does ≡ send_meets b s r a
   pair_is s r internal = refl
-  pair_is s r (store v x) = refl
   pair_is s r (sends c m xs) = refl
   pair_is s r (receives c m ws) = refl
 
@@ -109,19 +104,12 @@ module _ (b : Behaviour) (t : List (Option ℕ)) (arrives : ArrivesBy t b) where
       meeting_steps t (seen s.process s.front.number s.variables a) (seen r.process r.front.number r.variables a')
       ≡ pair_meets s r a a'
   pair_same s r internal internal p q h k = refl
-  pair_same s r internal (store v x) p q h k = refl
   pair_same s r internal (sends c m xs) p q h k = refl
   pair_same s r internal (receives c m ws) p q h k = refl
-  pair_same s r (store w y) internal p q h k = refl
-  pair_same s r (store w y) (store v x) p q h k = refl
-  pair_same s r (store w y) (sends c m xs) p q h k = refl
-  pair_same s r (store w y) (receives c m ws) p q h k = refl
   pair_same s r (receives d n vs) internal p q h k = refl
-  pair_same s r (receives d n vs) (store v x) p q h k = refl
   pair_same s r (receives d n vs) (sends c m xs) p q h k = refl
   pair_same s r (receives d n vs) (receives c m ws) p q h k = refl
   pair_same s r (sends d n ys) internal p q h k = refl
-  pair_same s r (sends d n ys) (store v x) p q h k = refl
   pair_same s r (sends d n ys) (sends c m xs) p q h k = refl
   pair_same s r (sends d n ys) (receives c m ws) p q h k = meets_same s r d n c m ys ws p q h k
 

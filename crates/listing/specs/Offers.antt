@@ -6,7 +6,7 @@ use Rattle.values.specs.declared.kind.Kind.{Kind}
 use Rattle.values.specs.Kinds.{same_kind}
 use Rattle.values.specs.Values.{Val, kind_of}
 use Rattle.commands.specs.Trees.{Behaviour}
-use Rattle.processes.specs.Fronts.{Action, internal, store, sends, receives}
+use Rattle.processes.specs.Fronts.{Action, internal, sends, receives}
 use Rattle.records.specs.declared.step.Step.{Step}
 use Rattle.records.specs.Lists.{optional}
 use Rattle.records.specs.Steps as step
@@ -30,7 +30,6 @@ exchange c m ks = record { channel = c; message = m; kinds = kind_places 4 ks }
 -- what others see of an action of front n of process p
 abbrev pub seen : ℕ → ℕ → List Val → Action → Offer
 seen p n vs internal = record { process = p; front = n; role = Internal }
-seen p n vs (store v x) = record { process = p; front = n; role = Internal }
 seen p n vs (sends c m xs) = record { process = p; front = n; role = Send (exchange c m (map kind_of xs)) }
 seen p n vs (receives c m ws) = record { process = p; front = n; role = Receive (exchange c m (target_kinds vs ws)) }
 
@@ -136,7 +135,6 @@ listed t os =
 -- an offer that the code can hold: a process number below 8, a channel below 32, at most four values
 abbrev pub HoldableAction : Action → Type 0
 HoldableAction internal = Unit {0}
-HoldableAction (store v x) = Unit {0}
 HoldableAction (sends c m xs) = (c < 32) × (length xs ≤ 4)
 HoldableAction (receives c m ws) = (c < 32) × (length ws ≤ 4)
 

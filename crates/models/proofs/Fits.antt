@@ -6,7 +6,7 @@ use Rattle.values.specs.declared.row.Row.{Row}
 use Rattle.values.specs.Values.{Val, kind_of}
 use Rattle.heads.specs.Exchanges.{same_kinds}
 use Rattle.processes.specs.Evaluation.{values_of}
-use Rattle.processes.specs.Fronts.{Action, internal, store, sends, receives, Front, front}
+use Rattle.processes.specs.Fronts.{Action, internal, sends, receives, Front, front}
 use Rattle.records.specs.declared.step.Step.{Step}
 use Rattle.steps.specs.Models as steps
 use Rattle.steps.specs.Taking.{process_numbered, offered_front, wanted, fits}
@@ -18,9 +18,8 @@ use Rattle.models.proofs.Numbering.{process_absent}
 wanted_shape : (vs : List Val) (x : Front) → wanted vs (Some x) ≡ wanted_by vs x.does
 wanted_shape vs x = by x.does
   where
-    by : (a : Action) → wanted vs (Some (front x.number a x.leaves)) ≡ wanted_by vs a
+    by : (a : Action) → wanted vs (Some (front x.number a x.variables x.leaves)) ≡ wanted_by vs a
     by internal = refl
-    by (store v y) = refl
     by (sends c m xs) = refl
     by (receives c m ws) = refl
 

@@ -4,7 +4,7 @@ use Rattle.values.specs.Rows.{row_of, value_of_row}
 use Rattle.values.specs.Values.{Val, integer, boolean, kind_of}
 use Rattle.admission.proofs.Exchanges.{same_kinds_from}
 use Rattle.processes.specs.Evaluation.{values_of}
-use Rattle.processes.specs.Fronts.{Action, internal, store, sends, receives, Front}
+use Rattle.processes.specs.Fronts.{Action, internal, sends, receives, Front}
 use Rattle.records.specs.declared.step.Step.{Step}
 use Rattle.records.specs.Steps as step
 use Rattle.steps.specs.Models.{Model}
@@ -19,7 +19,6 @@ use Rattle.models.specs.Takes.{Takes, FrontTakes}
 
 quiet_takes : (vs : List Val) (a : Action) (got : List Val) → Quiet a → Takes vs a got
 quiet_takes vs internal got q = tt
-quiet_takes vs (store v x) got q = tt
 quiet_takes vs (sends c m xs) got q = absurd q
 quiet_takes vs (receives c m ws) got q = absurd q
 

@@ -12,8 +12,8 @@ use Rattle.admission.specs.Conditions.{HaveKinds}
 use Rattle.processes.specs.declared.front.Front.{Front as FrontC}
 use Rattle.processes.specs.Classes.{PermittedBy, BringsOver}
 use Rattle.processes.specs.Evaluation.{values_of}
-use Rattle.processes.specs.Found.{Answers}
-use Rattle.processes.specs.Fronts.{Action, internal, store, sends, receives, Front}
+use Rattle.processes.specs.Found.{Answers, StandsFor}
+use Rattle.processes.specs.Fronts.{Action, internal, sends, receives, Front}
 use Rattle.steps.specs.Taking.{ended, process_numbered, offered_front, gone_on, moved, with_moved}
 use Rattle.steps.proofs.Permitted.{targets_have}
 use Rattle.tables.specs.declared.table.Table.{Table}
@@ -52,13 +52,12 @@ module _ {A : Type 0} (g h : ℕ → A) where
       let rest = one_set (k + 1) n i p (omega (arith, e)) (omega arith) s in
       (λ j. here j ∷ rest j)
 
-pub unanswered : (f : List ℕ) (o : Option Front) → Answers f None o → o ≡ None
-unanswered f None h = refl
-unanswered f (Some y) h = absurd h
+pub unanswered : (f : List ℕ) (vs : List Val) (o : Option Front) → Answers f vs None o → o ≡ None
+unanswered f vs None h = refl
+unanswered f vs (Some y) h = absurd h
 
 takes_brings : (vs : List Val) (ks : List Kind) (ds : List Declaration) (a : Action) (got : List Val) → map kind_of vs ≡ ks → PermittedBy ks ds a → Takes vs a got → BringsOver ks a got
 takes_brings vs ks ds internal got e p t = tt
-takes_brings vs ks ds (store v x) got e p t = tt
 takes_brings vs ks ds (sends c m xs) got e p t = tt
 takes_brings vs ks ds (receives c m ws) got e p t =
     let own = targets_have vs ws p.0 (subst (λ js. HaveKinds js ws p.0) (sym e) p.1) in
@@ -79,24 +78,24 @@ module _ (m : Model) (p n : ℕ) (got : List Val) where
 
   -- the front takes its values
   module _ (u : Table) (x : FrontC) (below : p < m.count) (bs : Bytes (bytes_of m))
-      (found : Answers (bytes_of m) (Some x) (offered_front (process_numbered (model_of m) p) n)) (takes : FrontTakes (model_of m) p n got) (adv : Advanced m.table u p x got) where
+      (found : Answers (bytes_of m) (process_numbered (model_of m) p).variables (Some x) (offered_front (process_numbered (model_of m) p) n)) (takes : FrontTakes (model_of m) p n got) (adv : Advanced m.table u p x got) where
     abbrev y : Front
-    y = (answered (bytes_of m) x (offered_front (process_numbered (model_of m) p) n) found).0
+    y = (answered (bytes_of m) (process_numbered (model_of m) p).variables x (offered_front (process_numbered (model_of m) p) n) found).0
 
     there : offered_front (process_in (bytes_of m) m.table p) n ≡ Some y
-    there = subst (λ one. offered_front one n ≡ Some y) (process_there m p below) (answered (bytes_of m) x (offered_front (process_numbered (model_of m) p) n) found).1
+    there = subst (λ one. offered_front one n ≡ Some y) (process_there m p below) (answered (bytes_of m) (process_numbered (model_of m) p).variables x (offered_front (process_numbered (model_of m) p) n) found).1
 
     it_moves : Moves (bytes_of m) m.classes m.table u p y got
     it_moves =
         let f = bytes_of m in
         let e = get_or m.table.entries p no_entry in
-        let a = answered f x (offered_front (process_numbered (model_of m) p) n) found in
+        let a = answered f (process_numbered (model_of m) p).variables x (offered_front (process_numbered (model_of m) p) n) found in
         let sound = (table_sound m).each p below in
         let g = good f m.classes e (rows_of m.table p) bs sound in
         let fk = front_kept f m.classes e (rows_of m.table p) n y g there in
         let t : Takes (values_of (rows_of m.table p)) y.does got = subst (λ one. Takes one.variables y.does got) (process_there m p below) (takes.takes y a.1) in
         let brings = takes_brings (values_of (rows_of m.table p)) (kinds_of_class f m.classes e) _ y.does got g.of_its_class.same_kinds_of fk.permitted t in
-        moves f m.classes bs m.table u p x y got n (omega (arith, below, m.few)) sound there a.2 brings adv
+        moves f m.classes bs m.table u p x y got n (omega (arith, below, m.few)) sound there (subst (λ one. StandsFor f one.variables x y) (process_there m p below) a.2) brings adv
 
     pub still_sound : SoundProcesses (bytes_of m) m.classes u m.count
     still_sound q l = either (eqb_tells q p)
@@ -110,7 +109,7 @@ module _ (m : Model) (p n : ℕ) (got : List Val) where
         let f = bytes_of m in
         let mv = it_moves in
         let e = one_set (process_in f m.table) (process_in f u) 0 m.count p p (omega arith) below mv.others in
-        let a = answered f x (offered_front (process_numbered (model_of m) p) n) found in
+        let a = answered f (process_numbered (model_of m) p).variables x (offered_front (process_numbered (model_of m) p) n) found in
         let one = process_in f m.table p in
         let o : gone_on one (Some y) got ≡ moved (process_numbered (model_of m) p) n got =
         (λ i. gone_on (sym (process_there m p below) i) (Some y) got) ∙ ap (λ o. gone_on (process_numbered (model_of m) p) o got) (sym a.1)

@@ -1,5 +1,6 @@
 -- A process keeps its class, whatever fronts are taken.
 use Rattle.std.proofs.Common.{◌≡◌, ℕ, zero, suc, ◌+◌, ◌<◌, ◌≤◌, Bool, true, false, cond, not, ltb, List, [], ◌∷◌, ◌++◌, map, length, get_or, set, Some, None, sym, refl, ap, ◌∙◌, subst, inl, inr, ⊎_elim, arith}
+use Rattle.std.proofs.lemmas.List.{map-append}
 use Rattle.std.specs.List.{slice_get, AllByRecursion}
 use Rattle.values.specs.declared.kind.Kind.{Kind}
 use Rattle.values.specs.declared.kind.Kind.TheVariants.{Boolean}
@@ -14,7 +15,8 @@ use Rattle.commands.specs.Trees.{Expr, leaf, binary, negation, Stmt, skip, assig
 use Rattle.heads.specs.Exchanges.{exchange}
 use Rattle.admission.specs.Conditions.{LeafKept, ExprKept, ExprsKept, StmtKept, HaveKinds, Declares, ClassKept, most_fronts}
 use Rattle.processes.specs.Evaluation.{eval, leaf_value}
-use Rattle.processes.specs.Fronts.{Action, internal, store, sends, receives, Front, front, is_true, is_false, offered, fronts, process_fronts}
+use Rattle.processes.specs.Fronts.{Action, internal, sends, receives, Front, front, is_true, is_false, offered, behind, fronts, process_fronts}
+use Rattle.processes.proofs.Behind.{twice, behind_guard, behind_ways}
 use Rattle.processes.specs.declared.left.Left.{Left}
 use Rattle.processes.specs.Found.{ProcessAt, Standing}
 use Rattle.processes.specs.Classes.{Part, HasRoom, ProcessOf, stored, after, Permitted, Brings, PermittedBy, BringsOver, FrontOf, FrontKept, ClassLaws}
@@ -84,7 +86,7 @@ leaf_kept vs k (BoolL b) h = by_bound (ltb b 3) k h
 leaf_kept vs k Iunk h = some_is h
 leaf_kept vs k (Var v) h = variable_kind vs v k h
 
-given : (op : Op) (a b : Val) → kind_of (apply op a b) ≡ gives op
+pub given : (op : Op) (a b : Val) → kind_of (apply op a b) ≡ gives op
 given Add a b = refl
 given Sub a b = refl
 given Mul a b = refl
@@ -135,58 +137,57 @@ all_offered P false x p = tt
 module _ (ks : List Kind) (ds : List Declaration) (vs : List Val) (kinds : map kind_of vs ≡ ks) (Own : Stmt → Type 0) (own_kept : (s : Stmt) → Own s → StmtKept ks ds s) (own : (t s : Stmt) → Own t → Part t s → Own s) where
   record Fits (x : Front) : Type 0 where
     permitted : PermittedBy ks ds x.does
-    goes_on : (got : List Val) → BringsOver ks x.does got → map kind_of (after vs x.does got) ≡ ks
+    goes_on : (got : List Val) → BringsOver ks x.does got → map kind_of (after x.variables x.does got) ≡ ks
     leaves_own : AllByRecursion Own x.leaves
     room : HasRoom x.leaves
     numbered : x.number < 8
 
-  after_kinds : (a : Action) (got : List Val) → PermittedBy ks ds a → BringsOver ks a got → map kind_of (after vs a got) ≡ ks
-  after_kinds internal got p b = kinds
-  after_kinds (store v x) got p b = set_kinds vs v x (subst (λ js. slice_get js v ≡ Some (kind_of x)) (sym kinds) p) ∙ kinds
-  after_kinds (sends channel message xs) got p b = kinds
-  after_kinds (receives channel message ws) got p b = stored_kinds vs ws got (subst (λ js. HaveKinds js ws (map kind_of got)) (sym kinds) b) ∙ kinds
+  after_kinds : (us : List Val) (a : Action) (got : List Val) → map kind_of us ≡ ks → BringsOver ks a got → map kind_of (after us a got) ≡ ks
+  after_kinds us internal got e b = e
+  after_kinds us (sends channel message xs) got e b = e
+  after_kinds us (receives channel message ws) got e b = stored_kinds us ws got (subst (λ js. HaveKinds js ws (map kind_of got)) (sym e) b) ∙ e
 
-  one : (n : ℕ) (a : Action) (l : List Stmt) → n < 8 → PermittedBy ks ds a → AllByRecursion Own l → HasRoom l → Fits (front n a l)
-  one n a l h p q r = record { permitted = p; goes_on = λ got b. after_kinds a got p b; leaves_own = q; room = r; numbered = h }
+  one : (n : ℕ) (a : Action) (us : List Val) (l : List Stmt) → n < 8 → PermittedBy ks ds a → map kind_of us ≡ ks → AllByRecursion Own l → HasRoom l → Fits (front n a us l)
+  one n a us l h p e q r = record { permitted = p; goes_on = λ got b. after_kinds us a got e b; leaves_own = q; room = r; numbered = h }
 
-  two : (v : Val) (n : ℕ) (x y : List Stmt) → n + 2 ≤ 8 → AllByRecursion Own x → HasRoom x → AllByRecursion Own y → HasRoom y → AllByRecursion Fits (offered (not (is_false v)) (front n internal x) ++ offered (not (is_true v)) (front (n + 1) internal y))
+  two : (v : Val) (n : ℕ) (x y : List Stmt) → n + 2 ≤ 8 → AllByRecursion Own x → HasRoom x → AllByRecursion Own y → HasRoom y → AllByRecursion Fits (offered (not (is_false v)) (front n internal vs x) ++ offered (not (is_true v)) (front (n + 1) internal vs y))
   two v n x y h p r q t =
       all_join Fits _ _
-      (all_offered Fits (not (is_false v)) _ (one n internal x (omega (arith, h)) tt p r))
-      (all_offered Fits (not (is_true v)) _ (one (n + 1) internal y (omega (arith, h)) tt q t))
+      (all_offered Fits (not (is_false v)) _ (one n internal vs x (omega (arith, h)) tt kinds p r))
+      (all_offered Fits (not (is_true v)) _ (one (n + 1) internal vs y (omega (arith, h)) tt kinds q t))
 
   here_kept : (s : Stmt) → Own s → StmtKept (map kind_of vs) ds s
   here_kept s p = subst (λ js. StmtKept js ds s) (sym kinds) (own_kept s p)
 
-  fronts_fit : (n : ℕ) (s : Stmt) (rest : List Stmt) → n + most_fronts s ≤ 8 → Own s → AllByRecursion Own rest → HasRoom (s ∷ rest) → AllByRecursion Fits (fronts vs n s rest)
-  fronts_fit n skip rest h p q r = (one n internal rest (omega (arith, h)) tt q r.1, tt)
+  fronts_fit : (n : ℕ) (s : Stmt) (rest : List Stmt) → n + most_fronts s ≤ 8 → Own s → AllByRecursion Own rest → HasRoom (s ∷ rest) → AllByRecursion Fits (map (behind rest) (fronts vs n s))
+  fronts_fit n skip rest h p q r = (one n internal vs rest (omega (arith, h)) tt kinds q r.1, tt)
   fronts_fit n (assign v e) rest h p q r =
       let k = here_kept (assign v e) p in
       let is : slice_get (map kind_of vs) v ≡ Some (kind_of (eval e vs)) = k.1 ∙ ap (λ j. Some j) (sym (eval_kind vs k.0 e k.2)) in
-      (one n (store v (eval e vs)) rest (omega (arith, h)) (subst (λ js. slice_get js v ≡ Some (kind_of (eval e vs))) kinds is) q r.1, tt)
+      (one n internal (set vs v (eval e vs)) rest (omega (arith, h)) tt (set_kinds vs v (eval e vs) is ∙ kinds) q r.1, tt)
   fronts_fit n (send channel message es) rest h p q r =
       let k = here_kept (send channel message es) p in
       let declared = subst (λ js. Declares ds (exchange false channel message js)) (sym (eval_kinds vs k.1.0 es k.1.1)) k.1.2 in
-      (one n (sends channel message (map (λ e. eval e vs) es)) rest (omega (arith, h)) declared q r.1, tt)
+      (one n (sends channel message (map (λ e. eval e vs) es)) vs rest (omega (arith, h)) declared kinds q r.1, tt)
   fronts_fit n (receive channel message ws) rest h p q r =
       let k = here_kept (receive channel message ws) p in
-      (one n (receives channel message ws) rest (omega (arith, h)) (k.2.0, subst (λ js. HaveKinds js ws k.2.0) kinds k.2.1, k.2.2) q r.1, tt)
+      (one n (receives channel message ws) vs rest (omega (arith, h)) (k.2.0, subst (λ js. HaveKinds js ws k.2.0) kinds k.2.1, k.2.2) kinds q r.1, tt)
   fronts_fit n (sequence a b) rest h p q r =
-      fronts_fit n a (b ∷ rest) h (own (sequence a b) a p (inr (inl (same a)))) (own (sequence a b) b p (inr (inr (same b))), q) (omega (arith, r.0), (omega (arith, r.0), r.1))
+      subst (AllByRecursion Fits) (sym (twice (b ∷ []) rest (fronts vs n a))) (fronts_fit n a (b ∷ rest) h (own (sequence a b) a p (inr (inl (same a)))) (own (sequence a b) b p (inr (inr (same b))), q) (omega (arith, r.0), (omega (arith, r.0), r.1)))
   fronts_fit n (select a b) rest h p q r =
-      all_join Fits _ _
+      subst (AllByRecursion Fits) (sym (map-append (behind rest) (fronts vs n a) (fronts vs (n + most_fronts a) b))) (all_join Fits _ _
       (fronts_fit n a rest (omega (arith, h)) (own (select a b) a p (inr (inl (same a)))) q (omega (arith, r.0), r.1))
-      (fronts_fit (n + most_fronts a) b rest (omega (arith, h)) (own (select a b) b p (inr (inr (same b)))) q (omega (arith, r.0), r.1))
+      (fronts_fit (n + most_fronts a) b rest (omega (arith, h)) (own (select a b) b p (inr (inr (same b)))) q (omega (arith, r.0), r.1)))
   fronts_fit n (guard e a) rest h p q r =
-      all_guarded Fits (is_true (eval e vs)) _ (fronts_fit n a rest h (own (guard e a) a p (inr (same a))) q (omega (arith, r.0), r.1))
+      subst (AllByRecursion Fits) (sym (behind_guard rest (is_true (eval e vs)) (fronts vs n a))) (all_guarded Fits (is_true (eval e vs)) _ (fronts_fit n a rest h (own (guard e a) a p (inr (same a))) q (omega (arith, r.0), r.1)))
   fronts_fit n (branch e a b) rest h p q r =
-      two (eval e vs) n (a ∷ rest) (b ∷ rest) h
+      subst (AllByRecursion Fits) (sym (behind_ways rest _ _ (front n internal vs (a ∷ [])) (front (n + 1) internal vs (b ∷ [])))) (two (eval e vs) n (a ∷ rest) (b ∷ rest) h
       (own (branch e a b) a p (inr (inl (same a))), q) (omega (arith, r.0), r.1)
-      (own (branch e a b) b p (inr (inr (same b))), q) (omega (arith, r.0), r.1)
+      (own (branch e a b) b p (inr (inr (same b))), q) (omega (arith, r.0), r.1))
   fronts_fit n (loop e a) rest h p q r =
-      two (eval e vs) n (a ∷ loop e a ∷ rest) rest h
+      subst (AllByRecursion Fits) (sym (behind_ways rest _ _ (front n internal vs (a ∷ loop e a ∷ [])) (front (n + 1) internal vs []))) (two (eval e vs) n (a ∷ loop e a ∷ rest) rest h
       (own (loop e a) a p (inr (same a)), (p, q)) (omega (arith, r.0), (r.0, r.1))
-      q r.1
+      q r.1)
 
   left_fits : (left : List Stmt) → AllByRecursion Own left → HasRoom left → AllByRecursion Fits (process_fronts vs left)
   left_fits [] q r = tt
@@ -199,38 +200,34 @@ all_map P Q f (x ∷ xs) a = (f x a.0, all_map P Q f xs a.1)
 -- over the kinds and declarations of a class, and in a process of it
 pub permitted_in : (c : Class) (a : Action) → PermittedBy (map kind_of c.variables) c.declarations a → Permitted c a
 permitted_in c internal p = p
-permitted_in c (store v x) p = p
 permitted_in c (sends channel message xs) p = p
 permitted_in c (receives channel message ws) p = p
 
 pub permitted_by : (c : Class) (a : Action) → Permitted c a → PermittedBy (map kind_of c.variables) c.declarations a
 permitted_by c internal p = p
-permitted_by c (store v x) p = p
 permitted_by c (sends channel message xs) p = p
 permitted_by c (receives channel message ws) p = p
 
 pub brings_in : (c : Class) (a : Action) (got : List Val) → BringsOver (map kind_of c.variables) a got → Brings c a got
 brings_in c internal got b = b
-brings_in c (store v x) got b = b
 brings_in c (sends channel message xs) got b = b
 brings_in c (receives channel message ws) got b = b
 
 pub brings_over : (c : Class) (a : Action) (got : List Val) → Brings c a got → BringsOver (map kind_of c.variables) a got
 brings_over c internal got b = b
-brings_over c (store v x) got b = b
 brings_over c (sends channel message xs) got b = b
 brings_over c (receives channel message ws) got b = b
 
-class_fronts : (c : Class) (vs : List Val) (left : List Stmt) → ClassKept c → ProcessOf c vs left → AllByRecursion (FrontOf c vs) (process_fronts vs left)
+class_fronts : (c : Class) (vs : List Val) (left : List Stmt) → ClassKept c → ProcessOf c vs left → AllByRecursion (FrontOf c) (process_fronts vs left)
 class_fronts c vs left k p =
     let ks = map kind_of c.variables in
     let Own : Stmt → Type 0 = Part c.statement in
     let fitting = left_fits ks c.declarations vs p.kinds Own (λ s. part_kept ks c.declarations c.statement s k.statement_kept) (below c.statement) left p.parts p.room in
-    all_map _ (FrontOf c vs) (λ x h. record { permitted = permitted_in c x.does h.permitted; goes_on = λ got b. record { kinds = h.goes_on got (brings_over c x.does got b); parts = h.leaves_own; room = h.room }; numbered = h.numbered }) _ fitting
+    all_map _ (FrontOf c) (λ x h. record { permitted = permitted_in c x.does h.permitted; goes_on = λ got b. record { kinds = h.goes_on got (brings_over c x.does got b); parts = h.leaves_own; room = h.room }; numbered = h.numbered }) _ fitting
 
-kept_fronts : (ks : List Kind) (ds : List Declaration) (vs : List Val) (left : List Stmt) → map kind_of vs ≡ ks → AllByRecursion (StmtKept ks ds) left → HasRoom left → AllByRecursion (FrontKept ks ds vs) (process_fronts vs left)
+kept_fronts : (ks : List Kind) (ds : List Declaration) (vs : List Val) (left : List Stmt) → map kind_of vs ≡ ks → AllByRecursion (StmtKept ks ds) left → HasRoom left → AllByRecursion (FrontKept ks ds) (process_fronts vs left)
 kept_fronts ks ds vs left e q r =
-    all_map _ (FrontKept ks ds vs) (λ x h. record { permitted = h.permitted; kinds = h.goes_on; leaves_kept = h.leaves_own; room = h.room; numbered = h.numbered }) _
+    all_map _ (FrontKept ks ds) (λ x h. record { permitted = h.permitted; kinds = h.goes_on; leaves_kept = h.leaves_own; room = h.room; numbered = h.numbered }) _
     (left_fits ks ds vs e (StmtKept ks ds) (λ s h. h) (part_kept ks ds) left q r)
 
 pub some_deep : (s : Stmt) → 1 ≤ stmt_depth s

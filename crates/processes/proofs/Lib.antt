@@ -1,3 +1,4 @@
+pub mod Behind
 pub mod Waited
 pub mod Numbered
 pub mod Kept

@@ -1,10 +1,10 @@
 -- Front numbers ascend.
-use Rattle.std.proofs.Common.{◌≡◌, ℕ, ◌+◌, ◌≤◌, Bool, true, false, cond, not, List, [], ◌∷◌, ◌++◌, Some, None, refl, subst, arith}
+use Rattle.std.proofs.Common.{◌≡◌, ℕ, ◌+◌, ◌≤◌, Bool, true, false, cond, not, List, [], ◌∷◌, ◌++◌, map, Some, None, refl, subst, arith}
 use Rattle.values.specs.Values.{Val, integer, boolean}
 use Rattle.commands.specs.Trees.{Stmt, skip, assign, send, receive, sequence, select, guard, branch, loop}
 use Rattle.admission.specs.Conditions.{most_fronts}
 use Rattle.processes.specs.Evaluation.{eval}
-use Rattle.processes.specs.Fronts.{Front, front, internal, is_true, is_false, offered, fronts}
+use Rattle.processes.specs.Fronts.{Front, front, internal, is_true, is_false, offered, behind, fronts}
 use Rattle.processes.specs.Laws.{Ascend, FrontLaws}
 use Rattle.processes.proofs.Kept.{class_laws, process_stands}
 use Rattle.processes.proofs.Waited.{fronts_and_waiting}
@@ -25,18 +25,27 @@ guarded : (b : Bool) (n below : ℕ) (xs : List Front) → n ≤ below → Ascen
 guarded true n below xs l h = h
 guarded false n below xs l h = l
 
-pub numbered : (vs : List Val) (n : ℕ) (s : Stmt) (rest : List Stmt) → Ascend n (fronts vs n s rest) (n + most_fronts s)
-numbered vs n skip rest = (omega arith, omega arith)
-numbered vs n (assign v e) rest = (omega arith, omega arith)
-numbered vs n (send c m es) rest = (omega arith, omega arith)
-numbered vs n (receive c m ws) rest = (omega arith, omega arith)
-numbered vs n (sequence a b) rest = numbered vs n a (b ∷ rest)
-numbered vs n (select a b) rest =
+-- what stands behind changes no number
+pub ascend_behind : (rest : List Stmt) (from below : ℕ) (fs : List Front) → Ascend from fs below → Ascend from (map (behind rest) fs) below
+ascend_behind rest from below [] h = h
+ascend_behind rest from below (x ∷ fs) h = (h.0, ascend_behind rest (x.number + 1) below fs h.1)
+
+pub numbered : (vs : List Val) (n : ℕ) (s : Stmt) → Ascend n (fronts vs n s) (n + most_fronts s)
+numbered vs n skip = (omega arith, omega arith)
+numbered vs n (assign v e) = (omega arith, omega arith)
+numbered vs n (send c m es) = (omega arith, omega arith)
+numbered vs n (receive c m ws) = (omega arith, omega arith)
+numbered vs n (sequence a b) = ascend_behind (b ∷ []) n (n + most_fronts a) (fronts vs n a) (numbered vs n a)
+numbered vs n (select a b) =
     let long : n + most_fronts a + most_fronts b ≡ n + (most_fronts a + most_fronts b) = omega arith in
-    subst (Ascend n (fronts vs n (select a b) rest)) long (joined n (n + most_fronts a) (n + most_fronts a + most_fronts b) (fronts vs n a rest) (fronts vs (n + most_fronts a) b rest) (numbered vs n a rest) (numbered vs (n + most_fronts a) b rest))
-numbered vs n (guard e a) rest = guarded (is_true (eval e vs)) n (n + most_fronts a) (fronts vs n a rest) (omega arith) (numbered vs n a rest)
-numbered vs n (branch e a b) rest = two_ways (eval e vs) n (front n internal (a ∷ rest)) (front (n + 1) internal (b ∷ rest)) refl refl
-numbered vs n (loop e a) rest = two_ways (eval e vs) n (front n internal (a ∷ loop e a ∷ rest)) (front (n + 1) internal rest) refl refl
+    subst (Ascend n (fronts vs n (select a b))) long (joined n (n + most_fronts a) (n + most_fronts a + most_fronts b) (fronts vs n a) (fronts vs (n + most_fronts a) b) (numbered vs n a) (numbered vs (n + most_fronts a) b))
+numbered vs n (guard e a) = guarded (is_true (eval e vs)) n (n + most_fronts a) (fronts vs n a) (omega arith) (numbered vs n a)
+numbered vs n (branch e a b) = two_ways (eval e vs) n (front n internal vs (a ∷ [])) (front (n + 1) internal vs (b ∷ [])) refl refl
+numbered vs n (loop e a) = two_ways (eval e vs) n (front n internal vs (a ∷ loop e a ∷ [])) (front (n + 1) internal vs []) refl refl
+
+-- the same before the rest of a process
+pub numbered_before : (vs : List Val) (n : ℕ) (s : Stmt) (rest : List Stmt) → Ascend n (map (behind rest) (fronts vs n s)) (n + most_fronts s)
+numbered_before vs n s rest = ascend_behind rest n (n + most_fronts s) (fronts vs n s) (numbered vs n s)
 
 pub laws : FrontLaws
-laws = record { numbered = numbered; waiting = fronts_and_waiting; classes = class_laws; process_stands = process_stands; unknown_guard = λ vs s rest. refl; closed_first = λ vs n e a b rest h. rw h }
+laws = record { numbered = numbered; waiting = fronts_and_waiting; classes = class_laws; process_stands = process_stands; unknown_guard = λ vs s rest. refl; closed_first = λ vs n e a b h. rw h }

@@ -28,12 +28,12 @@ module _ (n : ℕ) where
       let b = ascend_bound (x.number + 1) middle xs h.1 in
       rw (ne_eqb x.number n (λ e. omega (arith, e, b, l))) (in_second (x.number + 1) middle xs ys h.1 l)
 
-module _ (f : List ℕ) (k : ℕ) where
-  pub one_found : (n : ℕ) (a : ActionC) (l : Left) (y : Front) → y.number ≡ k → StandsFor f (record { action = a; leaves = l }) y → Answers f (one_front n a l) (front_numbered (k + n) (y ∷ []))
+module _ (f : List ℕ) (vs : List Val) (k : ℕ) where
+  pub one_found : (n : ℕ) (a : ActionC) (l : Left) (y : Front) → y.number ≡ k → StandsFor f vs (record { action = a; leaves = l }) y → Answers f vs (one_front n a l) (front_numbered (k + n) (y ∷ []))
   one_found zero a l y e s = rw (eq-eqb y.number (k + 0) (omega (arith, e))) s
   one_found (suc n) a l y e s = rw (ne_eqb (suc n) 0 (λ i. omega arith), ne_eqb y.number (k + suc n) (λ i. omega (arith, e, i))) tt
 
-  module _ (a b : Left) (x y : Front) (p : x.number ≡ k) (q : y.number ≡ k + 1) (s : StandsFor f (record { action = Internal; leaves = a }) x) (t : StandsFor f (record { action = Internal; leaves = b }) y) where
+  module _ (a b : Left) (x y : Front) (p : x.number ≡ k) (q : y.number ≡ k + 1) (s : StandsFor f vs (record { action = Internal; leaves = a }) x) (t : StandsFor f vs (record { action = Internal; leaves = b }) y) where
     first_is : eqb x.number (k + 0) ≡ true
     first_is = eq-eqb x.number (k + 0) (omega (arith, p))
 
@@ -46,7 +46,7 @@ module _ (f : List ℕ) (k : ℕ) where
     second_not : (n : ℕ) → (n ≡ 1 → ⊥) → eqb y.number (k + n) ≡ false
     second_not n h = ne_eqb y.number (k + n) (λ i. h (omega (arith, q, i)))
 
-    pub two_found : (n : ℕ) (v : Val) → Answers f (two_fronts v n a b) (front_numbered (k + n) (offered (not (is_false v)) x ++ offered (not (is_true v)) y))
+    pub two_found : (n : ℕ) (v : Val) → Answers f vs (two_fronts v n a b) (front_numbered (k + n) (offered (not (is_false v)) x ++ offered (not (is_true v)) y))
     two_found zero (integer z) = rw first_is s
     two_found zero (boolean None) = rw first_is s
     two_found zero (boolean (Some true)) = rw first_is s
@@ -57,7 +57,7 @@ module _ (f : List ℕ) (k : ℕ) where
     two_found (suc zero) (boolean (Some false)) = rw second_is t
     two_found (suc (suc n)) v = rw (ne_eqb (suc (suc n)) 0 (λ i. omega arith), ne_eqb (suc (suc n)) 1 (λ i. omega arith)) (past n v)
       where
-        past : (n : ℕ) (v : Val) → Answers f None (front_numbered (k + suc (suc n)) (offered (not (is_false v)) x ++ offered (not (is_true v)) y))
+        past : (n : ℕ) (v : Val) → Answers f vs None (front_numbered (k + suc (suc n)) (offered (not (is_false v)) x ++ offered (not (is_true v)) y))
         past n (integer z) = rw (first_not (suc n), second_not (suc (suc n)) (λ i. omega (arith, i))) tt
         past n (boolean None) = rw (first_not (suc n), second_not (suc (suc n)) (λ i. omega (arith, i))) tt
         past n (boolean (Some true)) = rw (first_not (suc n)) tt

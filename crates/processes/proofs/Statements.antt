@@ -1,6 +1,6 @@
 -- The front of a number of each statement, from what the code finds at its place.
-use Rattle.std.proofs.Common.{◌≡◌, ℕ, suc, ◌+◌, ◌-◌, ◌<◌, ◌≤◌, true, false, List, [], ◌∷◌, map, length, take, replicate, None, Option, sym, refl, ap, ◌∙◌, subst, arith}
-use Rattle.std.proofs.lemmas.List.{take_at}
+use Rattle.std.proofs.Common.{◌≡◌, ℕ, suc, ◌+◌, ◌-◌, ◌<◌, ◌≤◌, true, false, not, List, [], ◌∷◌, ◌++◌, map, length, set, take, replicate, None, Option, sym, refl, ap, ◌∙◌, subst, arith}
+use Rattle.std.proofs.lemmas.List.{take_at, map-append}
 use Rattle.commands.specs.Bytes.{padded}
 use Rattle.values.specs.declared.row.Row.{Row}
 use Rattle.values.specs.Rows.{value_of_row}
@@ -16,9 +16,10 @@ use Rattle.values.specs.declared.few.Few.{Few}
 use Rattle.processes.specs.declared.left.Left.{Left}
 use Rattle.processes.specs.Evaluation.{eval}
 use Rattle.processes.specs.Found.{Answers, StmtsAt, front_numbered, one_front, two_fronts, values_in, variables_in, Ready, Standing}
-use Rattle.processes.specs.Fronts.{internal, store, sends, receives, front, is_true, fronts}
+use Rattle.processes.specs.Fronts.{internal, sends, receives, Front, front, is_true, is_false, offered, behind, fronts}
 use Rattle.processes.specs.Places.{places_of}
-use Rattle.processes.proofs.Numbered.{numbered}
+use Rattle.processes.proofs.Behind.{twice, behind_ways}
+use Rattle.processes.proofs.Numbered.{numbered_before}
 use Rattle.processes.proofs.Numbers.{in_first, in_second, one_found, two_found}
 
 -- the variables of a RECV among its four bytes
@@ -85,50 +86,58 @@ module _ (f : List ℕ) where
 
     module _ (vs : List Val) (n : ℕ) (r : Option FrontC) (s : Stmt) (k : ℕ) where
       abbrev pub FoundAt : Type 0
-      FoundAt = Answers f r (front_numbered (k + n) (fronts vs k s ss))
+      FoundAt = Answers f vs r (front_numbered (k + n) (map (behind ss) (fronts vs k s)))
 
       pub skip_found : r ≡ one_front n Internal rest → s ≡ skip → Ready f at rest s ss → FoundAt
-      skip_found e p h = rw (e, p) (one_found f k n Internal rest (front k internal ss) refl (record { does = refl; leaves = h.behind }))
+      skip_found e p h = rw (e, p) (one_found f vs k n Internal rest (front k internal vs ss) refl (record { does = refl; variables = refl; leaves = h.behind }))
 
       pub set_found : (v : ℕ) (row : Row) (x : Expr) → r ≡ one_front n (Store v row) rest → s ≡ assign v x → value_of_row row ≡ eval x vs → Ready f at rest s ss → FoundAt
-      set_found v row x e p q h = rw (e, p) (one_found f k n (Store v row) rest (front k (store v (eval x vs)) ss) refl (record { does = ap (λ w. store v w) q; leaves = h.behind }))
+      set_found v row x e p q h = rw (e, p) (one_found f vs k n (Store v row) rest (front k internal (set vs v (eval x vs)) ss) refl (record { does = refl; variables = ap (set vs v) q; leaves = h.behind }))
 
       pub send_found : (c m : ℕ) (sent : Few Row 4) (es : List Expr) → r ≡ one_front n (Send c m sent) rest → s ≡ send c m es → values_in sent ≡ map (λ e. eval e vs) es → Ready f at rest s ss → FoundAt
-      send_found c m sent es e p q h = rw (e, p) (one_found f k n (Send c m sent) rest (front k (sends c m (map (λ e. eval e vs) es)) ss) refl (record { does = ap (λ w. sends c m w) q; leaves = h.behind }))
+      send_found c m sent es e p q h = rw (e, p) (one_found f vs k n (Send c m sent) rest (front k (sends c m (map (λ e. eval e vs) es)) vs ss) refl (record { does = ap (λ w. sends c m w) q; variables = refl; leaves = h.behind }))
 
       pub receive_found : (c m : ℕ) (targets : Few ℕ 4) (ws : List ℕ) → r ≡ one_front n (Receive c m targets) rest → s ≡ receive c m ws → variables_in targets ≡ ws → Ready f at rest s ss → FoundAt
-      receive_found c m targets ws e p q h = rw (e, p) (one_found f k n (Receive c m targets) rest (front k (receives c m ws) ss) refl (record { does = ap (λ w. receives c m w) q; leaves = h.behind }))
+      receive_found c m targets ws e p q h = rw (e, p) (one_found f vs k n (Receive c m targets) rest (front k (receives c m ws) vs ss) refl (record { does = ap (λ w. receives c m w) q; variables = refl; leaves = h.behind }))
 
-      pub sequence_found : (a b : Stmt) → s ≡ sequence a b → Answers f r (front_numbered (k + n) (fronts vs k a (b ∷ ss))) → FoundAt
-      sequence_found a b p i = rw p i
+      pub sequence_found : (a b : Stmt) → s ≡ sequence a b → Answers f vs r (front_numbered (k + n) (map (behind (b ∷ ss)) (fronts vs k a))) → FoundAt
+      sequence_found a b p i = rw p (subst (λ fs. Answers f vs r (front_numbered (k + n) fs)) (sym (twice (b ∷ []) ss (fronts vs k a))) i)
 
-      pub first_found : (a b : Stmt) → s ≡ select a b → n < most_fronts a → Answers f r (front_numbered (k + n) (fronts vs k a ss)) → FoundAt
+      both_found : (a b : Stmt) → s ≡ select a b → Answers f vs r (front_numbered (k + n) (map (behind ss) (fronts vs k a) ++ map (behind ss) (fronts vs (k + most_fronts a) b))) → FoundAt
+      both_found a b p i = rw p (subst (λ fs. Answers f vs r (front_numbered (k + n) fs)) (sym (map-append (behind ss) (fronts vs k a) (fronts vs (k + most_fronts a) b))) i)
+
+      pub first_found : (a b : Stmt) → s ≡ select a b → n < most_fronts a → Answers f vs r (front_numbered (k + n) (map (behind ss) (fronts vs k a))) → FoundAt
       first_found a b p l i =
-          let here = in_first (k + n) (k + most_fronts a) (k + most_fronts a + most_fronts b) (fronts vs k a ss) (fronts vs (k + most_fronts a) b ss) (numbered vs (k + most_fronts a) b ss) (omega (arith, l)) in
-          rw p (subst (Answers f r) (sym here) i)
+          let here = in_first (k + n) (k + most_fronts a) (k + most_fronts a + most_fronts b) (map (behind ss) (fronts vs k a)) (map (behind ss) (fronts vs (k + most_fronts a) b)) (numbered_before vs (k + most_fronts a) b ss) (omega (arith, l)) in
+          both_found a b p (subst (Answers f vs r) (sym here) i)
 
-      pub second_found : (a b : Stmt) (m : ℕ) → s ≡ select a b → m ≡ most_fronts a → m ≤ n → Answers f r (front_numbered (k + most_fronts a + (n - m)) (fronts vs (k + most_fronts a) b ss)) → FoundAt
+      pub second_found : (a b : Stmt) (m : ℕ) → s ≡ select a b → m ≡ most_fronts a → m ≤ n → Answers f vs r (front_numbered (k + most_fronts a + (n - m)) (map (behind ss) (fronts vs (k + most_fronts a) b))) → FoundAt
       second_found a b m p is l i =
-          let here = in_second (k + n) k (k + most_fronts a) (fronts vs k a ss) (fronts vs (k + most_fronts a) b ss) (numbered vs k a ss) (omega (arith, is, l)) in
+          let here = in_second (k + n) k (k + most_fronts a) (map (behind ss) (fronts vs k a)) (map (behind ss) (fronts vs (k + most_fronts a) b)) (numbered_before vs k a ss) (omega (arith, is, l)) in
           let same : k + most_fronts a + (n - m) ≡ k + n = omega (arith, is, l) in
-          rw p (subst (Answers f r) (sym here) (subst (λ j. Answers f r (front_numbered j (fronts vs (k + most_fronts a) b ss))) same i))
+          both_found a b p (subst (Answers f vs r) (sym here) (subst (λ j. Answers f vs r (front_numbered j (map (behind ss) (fronts vs (k + most_fronts a) b)))) same i))
 
-      pub open_found : (e : Expr) (a : Stmt) → s ≡ guard e a → is_true (eval e vs) ≡ true → Answers f r (front_numbered (k + n) (fronts vs k a ss)) → FoundAt
+      pub open_found : (e : Expr) (a : Stmt) → s ≡ guard e a → is_true (eval e vs) ≡ true → Answers f vs r (front_numbered (k + n) (map (behind ss) (fronts vs k a))) → FoundAt
       open_found e a p t i = rw (p, t) i
 
       pub closed_found : (e : Expr) (a : Stmt) → s ≡ guard e a → is_true (eval e vs) ≡ false → r ≡ None → FoundAt
       closed_found e a p t i = rw (p, t, i) tt
 
+      either_found : (e : Expr) (u w : Front) (x y : Left) →
+          Answers f vs (two_fronts (eval e vs) n x y) (front_numbered (k + n) (offered (not (is_false (eval e vs))) (behind ss u) ++ offered (not (is_true (eval e vs))) (behind ss w)))
+          → Answers f vs (two_fronts (eval e vs) n x y) (front_numbered (k + n) (map (behind ss) (offered (not (is_false (eval e vs))) u ++ offered (not (is_true (eval e vs))) w)))
+      either_found e u w x y i = subst (λ fs. Answers f vs (two_fronts (eval e vs) n x y) (front_numbered (k + n) fs)) (sym (behind_ways ss _ _ u w)) i
+
       pub branch_found : (v : Val) (e : Expr) (a b : Stmt) (i j : ℕ) (x y : Left) → r ≡ two_fronts v n x y → v ≡ eval e vs → s ≡ branch e a b → places_of x ≡ i ∷ places_of rest → places_of y ≡ j ∷ places_of rest → StmtAt f i a → StmtAt f j b → Ready f at rest s ss → FoundAt
       branch_found v e a b i j x y is w p g d sa sb h =
-          rw (is, w, p) (two_found f k x y (front k internal (a ∷ ss)) (front (k + 1) internal (b ∷ ss)) refl refl
-          (record { does = refl; leaves = before i x a g sa h.behind })
-          (record { does = refl; leaves = before j y b d sb h.behind }) n (eval e vs))
+          rw (is, w, p) (either_found e (front k internal vs (a ∷ [])) (front (k + 1) internal vs (b ∷ [])) x y (two_found f vs k x y (front k internal vs (a ∷ ss)) (front (k + 1) internal vs (b ∷ ss)) refl refl
+          (record { does = refl; variables = refl; leaves = before i x a g sa h.behind })
+          (record { does = refl; variables = refl; leaves = before j y b d sb h.behind }) n (eval e vs)))
 
       pub loop_found : (v : Val) (e : Expr) (a : Stmt) (i : ℕ) (again x : Left) → r ≡ two_fronts v n x rest → v ≡ eval e vs → s ≡ loop e a → places_of again ≡ at ∷ places_of rest → places_of x ≡ i ∷ places_of again → StmtAt f i a → Ready f at rest s ss → FoundAt
       loop_found v e a i again x is w p g d sa h =
           let both : StmtsAt f (i ∷ at ∷ places_of rest) (a ∷ s ∷ ss) = (sa, (h.here, h.behind)) in
           let all : StmtsAt f (places_of x) (a ∷ loop e a ∷ ss) = subst (λ u. StmtsAt f (places_of x) (a ∷ u ∷ ss)) p (subst (λ ps. StmtsAt f ps (a ∷ s ∷ ss)) (sym (d ∙ ap (λ ps. i ∷ ps) g)) both) in
-          rw (is, w, p) (two_found f k x rest (front k internal (a ∷ loop e a ∷ ss)) (front (k + 1) internal ss) refl refl
-          (record { does = refl; leaves = all })
-          (record { does = refl; leaves = h.behind }) n (eval e vs))
+          rw (is, w, p) (either_found e (front k internal vs (a ∷ loop e a ∷ [])) (front (k + 1) internal vs []) x rest (two_found f vs k x rest (front k internal vs (a ∷ loop e a ∷ ss)) (front (k + 1) internal vs ss) refl refl
+          (record { does = refl; variables = refl; leaves = all })
+          (record { does = refl; variables = refl; leaves = h.behind }) n (eval e vs)))

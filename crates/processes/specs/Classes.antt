@@ -1,13 +1,13 @@
 -- What a process keeps of its class, whatever fronts are taken.
-use Rattle.std.specs.Prelude.{◌≡◌, ℕ, ◌+◌, ◌<◌, ◌≤◌, true, false, ◌⊎◌, List, [], ◌∷◌, map, length, Some, slice_set}
-use Rattle.std.specs.List.{slice_get, AllByRecursion}
+use Rattle.std.specs.Prelude.{◌≡◌, ℕ, ◌+◌, ◌<◌, ◌≤◌, true, false, ◌⊎◌, List, [], ◌∷◌, map, length, slice_set}
+use Rattle.std.specs.List.{AllByRecursion}
 use Rattle.values.specs.declared.kind.Kind.{Kind}
 use Rattle.values.specs.Values.{Val, kind_of}
 use Rattle.commands.specs.Depths.{stmt_depth}
 use Rattle.commands.specs.Trees.{Stmt, skip, assign, send, receive, sequence, select, guard, branch, loop, Declaration, Class}
 use Rattle.heads.specs.Exchanges.{exchange}
 use Rattle.admission.specs.Conditions.{Declares, HaveKinds, StmtKept, ClassKept}
-use Rattle.processes.specs.Fronts.{Action, internal, store, sends, receives, Front, process_fronts}
+use Rattle.processes.specs.Fronts.{Action, internal, sends, receives, Front, process_fronts}
 
 -- the second is the first or a statement in it
 abbrev pub Part : Stmt → Stmt → Type 0
@@ -32,22 +32,21 @@ pub record ProcessOf (c : Class) (vs : List Val) (left : List Stmt) : Type 0 whe
   pub parts : AllByRecursion (Part c.statement) left
   pub room : HasRoom left
 
--- variables after a front, with the values that it received
+-- values put into variables, one after the other
 abbrev pub stored : List Val → List ℕ → List Val → List Val
 stored vs [] got = vs
 stored vs (w ∷ ws) [] = vs
 stored vs (w ∷ ws) (x ∷ got) = stored (slice_set vs w x) ws got
 
+-- the variables that a front's own work leaves, with the values that it received
 abbrev pub after : List Val → Action → List Val → List Val
 after vs internal got = vs
-after vs (store v x) got = slice_set vs v x
 after vs (sends c m xs) got = vs
 after vs (receives c m ws) got = stored vs ws got
 
 -- what a front may do in a process of a class: a send or receive is declared, with its kinds
 abbrev pub Permitted : Class → Action → Type 0
 Permitted c internal = Unit {0}
-Permitted c (store v x) = slice_get (map kind_of c.variables) v ≡ Some (kind_of x)
 Permitted c (sends channel message xs) = Declares c.declarations (exchange false channel message (map kind_of xs))
 Permitted c (receives channel message ws) =
     (ks : List Kind) × HaveKinds (map kind_of c.variables) ws ks × Declares c.declarations (exchange true channel message ks)
@@ -55,41 +54,38 @@ Permitted c (receives channel message ws) =
 -- values that a receive may bring
 abbrev pub Brings : Class → Action → List Val → Type 0
 Brings c internal got = Unit {0}
-Brings c (store v x) got = Unit {0}
 Brings c (sends channel message xs) got = Unit {0}
 Brings c (receives channel message ws) got = HaveKinds (map kind_of c.variables) ws (map kind_of got)
 
-pub record FrontOf (c : Class) (vs : List Val) (x : Front) : Type 0 where
+pub record FrontOf (c : Class) (x : Front) : Type 0 where
   pub permitted : Permitted c x.does
-  pub goes_on : (got : List Val) → Brings c x.does got → ProcessOf c (after vs x.does got) x.leaves
+  pub goes_on : (got : List Val) → Brings c x.does got → ProcessOf c (after x.variables x.does got) x.leaves
   pub numbered : x.number < 8
 
 -- the same over kinds of variables and declarations, whatever class they are of
 abbrev pub PermittedBy : List Kind → List Declaration → Action → Type 0
 PermittedBy ks ds internal = Unit {0}
-PermittedBy ks ds (store v x) = slice_get ks v ≡ Some (kind_of x)
 PermittedBy ks ds (sends channel message xs) = Declares ds (exchange false channel message (map kind_of xs))
 PermittedBy ks ds (receives channel message ws) = (js : List Kind) × HaveKinds ks ws js × Declares ds (exchange true channel message js)
 
 abbrev pub BringsOver : List Kind → Action → List Val → Type 0
 BringsOver ks internal got = Unit {0}
-BringsOver ks (store v x) got = Unit {0}
 BringsOver ks (sends channel message xs) got = Unit {0}
 BringsOver ks (receives channel message ws) got = HaveKinds ks ws (map kind_of got)
 
 -- a front of statements that each keep these kinds and declarations
-pub record FrontKept (ks : List Kind) (ds : List Declaration) (vs : List Val) (x : Front) : Type 0 where
+pub record FrontKept (ks : List Kind) (ds : List Declaration) (x : Front) : Type 0 where
   pub permitted : PermittedBy ks ds x.does
-  pub kinds : (got : List Val) → BringsOver ks x.does got → map kind_of (after vs x.does got) ≡ ks
+  pub kinds : (got : List Val) → BringsOver ks x.does got → map kind_of (after x.variables x.does got) ≡ ks
   pub leaves_kept : AllByRecursion (StmtKept ks ds) x.leaves
   pub room : HasRoom x.leaves
   pub numbered : x.number < 8
 
 pub record ClassLaws : Type 0 where
   pub fresh : (c : Class) → ClassKept c → ProcessOf c c.variables (c.statement ∷ [])
-  pub fronts_kept : (c : Class) (vs : List Val) (left : List Stmt) → ClassKept c → ProcessOf c vs left → AllByRecursion (FrontOf c vs) (process_fronts vs left)
+  pub fronts_kept : (c : Class) (vs : List Val) (left : List Stmt) → ClassKept c → ProcessOf c vs left → AllByRecursion (FrontOf c) (process_fronts vs left)
   -- what remains of a process fits in 32 places
   pub few : (c : Class) (vs : List Val) (left : List Stmt) → ProcessOf c vs left → length left ≤ 32
   pub few_left : (left : List Stmt) → HasRoom left → length left ≤ 32
   -- the same of statements that each keep these kinds and declarations
-  pub statements_kept : (ks : List Kind) (ds : List Declaration) (vs : List Val) (left : List Stmt) → map kind_of vs ≡ ks → AllByRecursion (StmtKept ks ds) left → HasRoom left → AllByRecursion (FrontKept ks ds vs) (process_fronts vs left)
+  pub statements_kept : (ks : List Kind) (ds : List Declaration) (vs : List Val) (left : List Stmt) → map kind_of vs ≡ ks → AllByRecursion (StmtKept ks ds) left → HasRoom left → AllByRecursion (FrontKept ks ds) (process_fronts vs left)

@@ -1,5 +1,5 @@
 -- How a front in the code stands for a front of trees.
-use Rattle.std.specs.Prelude.{◌≡◌, ℕ, ◌≤◌, cond, not, List, [], ◌∷◌, map, length, Some, None, Option, ◌==◌}
+use Rattle.std.specs.Prelude.{◌≡◌, ℕ, ◌≤◌, cond, not, List, [], ◌∷◌, map, length, Some, None, Option, ◌==◌, slice_set}
 use Rattle.std.specs.List.{AllByRecursion}
 use Rattle.values.specs.declared.few.Few.{Few}
 use Rattle.values.specs.declared.kind.Kind.{Kind}
@@ -15,7 +15,7 @@ use Rattle.processes.specs.declared.front.Action.TheVariants.{Internal, Store, S
 use Rattle.processes.specs.declared.front.Front.{Front as FrontC}
 use Rattle.processes.specs.declared.left.Left.{Left}
 use Rattle.processes.specs.Classes.{HasRoom, ProcessOf}
-use Rattle.processes.specs.Fronts.{Action, internal, store, sends, receives, Front, is_true, is_false}
+use Rattle.processes.specs.Fronts.{Action, internal, sends, receives, Front, is_true, is_false}
 use Rattle.processes.specs.Places.{places_of}
 
 abbrev pub values_in : Few Row 4 → List Val
@@ -26,9 +26,16 @@ variables_in t = listed t
 
 abbrev pub action_of : ActionC → Action
 action_of Internal = internal
-action_of (Store v row) = store v (value_of_row row)
+action_of (Store v row) = internal
 action_of (Send channel message s) = sends channel message (values_in s)
 action_of (Receive channel message t) = receives channel message (variables_in t)
+
+-- the variables that an action of the code leaves by itself
+abbrev pub own_work : List Val → ActionC → List Val
+own_work vs Internal = vs
+own_work vs (Store v row) = slice_set vs v (value_of_row row)
+own_work vs (Send channel message s) = vs
+own_work vs (Receive channel message t) = vs
 
 -- these statements stand at these places
 abbrev pub StmtsAt : List ℕ → List ℕ → List Stmt → Type 0
@@ -37,15 +44,16 @@ StmtsAt f [] (s ∷ ss) = ⊥
 StmtsAt f (p ∷ ps) [] = ⊥
 StmtsAt f (p ∷ ps) (s ∷ ss) = StmtAt f p s × StmtsAt f ps ss
 
-pub record StandsFor (f : List ℕ) (x : FrontC) (y : Front) : Type 0 where
+pub record StandsFor (f : List ℕ) (vs : List Val) (x : FrontC) (y : Front) : Type 0 where
   pub does : action_of x.action ≡ y.does
+  pub variables : own_work vs x.action ≡ y.variables
   pub leaves : StmtsAt f (places_of x.leaves) y.leaves
 
-abbrev pub Answers : List ℕ → Option FrontC → Option Front → Type 0
-Answers f None None = Unit {0}
-Answers f None (Some y) = ⊥
-Answers f (Some x) None = ⊥
-Answers f (Some x) (Some y) = StandsFor f x y
+abbrev pub Answers : List ℕ → List Val → Option FrontC → Option Front → Type 0
+Answers f vs None None = Unit {0}
+Answers f vs None (Some y) = ⊥
+Answers f vs (Some x) None = ⊥
+Answers f vs (Some x) (Some y) = StandsFor f vs x y
 
 -- the front of a number
 abbrev pub front_numbered : ℕ → List Front → Option Front

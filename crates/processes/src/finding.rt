@@ -1,7 +1,7 @@
 // The fronts of a process in a file.
-ghost use Rattle.std.specs.Prelude.{◌≡◌, ℕ, ◌+◌, true, false, List};
+ghost use Rattle.std.specs.Prelude.{◌≡◌, ℕ, ◌+◌, true, false, List, map};
 ghost use Rattle.values.specs.Values.{meaning};
-ghost use Rattle.processes.specs.Fronts.{is_true, is_false, fronts, process_fronts};
+ghost use Rattle.processes.specs.Fronts.{is_true, is_false, behind, fronts, process_fronts};
 ghost use Rattle.values.specs.declared.kind.Kind.{Kind};
 ghost use Rattle.commands.specs.Trees.{Stmt, Declaration, Class};
 ghost use Rattle.processes.specs.Evaluation.{values_of};
@@ -17,13 +17,13 @@ use values::few::Few;
 use values::row::Row;
 use values::value::Value;
 
-fn is_true(value: Value) -> bool
+pub fn is_true(value: Value) -> bool
     ensures { result ≡ is_true (meaning value) }
 {
     value.boolean().get().unwrap_or(false)
 }
 
-fn is_false(value: Value) -> bool
+pub fn is_false(value: Value) -> bool
     ensures { result ≡ is_false (meaning value) }
 {
     value.boolean().get().is_some_and(|truth| !truth)
@@ -58,7 +58,7 @@ fn two_fronts(condition: Value, number: u8, yes: Left, no: Left) -> Option<Front
 // fact with one proof at most.
 fn front_at(file: &[u8], at: usize, rest: Left, variables: &[Row], number: u8) -> Option<Front>
     requires { (s : Stmt) × (ss : List Stmt) × Ready file.now at rest s ss }
-    ensures { (s : Stmt) (ss : List Stmt) (k : ℕ) → Ready file.now at rest s ss → Answers file.now result (front_numbered (k + number) (fronts (values_of variables.now) k s ss)) }
+    ensures { (s : Stmt) (ss : List Stmt) (k : ℕ) → Ready file.now at rest s ss → Answers file.now (values_of variables.now) result (front_numbered (k + number) (map (behind ss) (fronts (values_of variables.now) k s))) }
 {
     let Some(command) = read::<StatementCommand>(file, at) else {
         return unreachable();
@@ -110,7 +110,7 @@ fn front_at(file: &[u8], at: usize, rest: Left, variables: &[Row], number: u8) -
 // The front of a number of a process; none where the process does not offer it.
 pub fn front(file: &[u8], left: Left, variables: &[Row], number: u8) -> Option<Front>
     requires { (c : Class) × (ss : List Stmt) × ProcessAt file.now left (values_of variables.now) c ss }
-    ensures { (c : Class) (ss : List Stmt) → ProcessAt file.now left (values_of variables.now) c ss → Answers file.now result (front_numbered number (process_fronts (values_of variables.now) ss)) }
+    ensures { (c : Class) (ss : List Stmt) → ProcessAt file.now left (values_of variables.now) c ss → Answers file.now (values_of variables.now) result (front_numbered number (process_fronts (values_of variables.now) ss)) }
 {
     front_of_places(file, left, variables, number)
 }
@@ -118,7 +118,7 @@ pub fn front(file: &[u8], left: Left, variables: &[Row], number: u8) -> Option<F
 // The same of places where statements stand, whatever class they are of.
 pub fn front_of_places(file: &[u8], left: Left, variables: &[Row], number: u8) -> Option<Front>
     requires { (ks : List Kind) × (ds : List Declaration) × (ss : List Stmt) × Standing file.now left ks ds ss }
-    ensures { (ks : List Kind) (ds : List Declaration) (ss : List Stmt) → Standing file.now left ks ds ss → Answers file.now result (front_numbered number (process_fronts (values_of variables.now) ss)) }
+    ensures { (ks : List Kind) (ds : List Declaration) (ss : List Stmt) → Standing file.now left ks ds ss → Answers file.now (values_of variables.now) result (front_numbered number (process_fronts (values_of variables.now) ss)) }
 {
     let (at, rest) = left.split()?;
     front_at(file, at as usize, rest, variables, number)

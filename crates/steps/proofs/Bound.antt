@@ -6,7 +6,7 @@ use Rattle.values.specs.declared.kind.Kind.{Kind}
 use Rattle.values.specs.Values.{kind_of}
 use Rattle.commands.specs.Trees.{Behaviour}
 use Rattle.heads.specs.Exchanges.{same_kinds}
-use Rattle.processes.specs.Fronts.{Action, internal, store, sends, receives}
+use Rattle.processes.specs.Fronts.{Action, internal, sends, receives}
 use Rattle.records.specs.declared.step.Step.{Step}
 use Rattle.records.specs.Steps as step
 use Rattle.arrivals.specs.Climbing.{meeting_channel}
@@ -32,19 +32,16 @@ product s r h =
 -- one for an action of a sort
 abbrev one_internal : Action → ℕ
 one_internal internal = 1
-one_internal (store v x) = 1
 one_internal (sends c m xs) = 0
 one_internal (receives c m ws) = 0
 
 abbrev one_send : Action → ℕ
 one_send internal = 0
-one_send (store v x) = 0
 one_send (sends c m xs) = 1
 one_send (receives c m ws) = 0
 
 abbrev one_receive : Action → ℕ
 one_receive internal = 0
-one_receive (store v x) = 0
 one_receive (sends c m xs) = 0
 one_receive (receives c m ws) = 1
 
@@ -54,7 +51,6 @@ many one (o ∷ os) = one o.front.does + many one os
 
 one_sort : (a : Action) → (one_internal a + one_send a) + one_receive a ≡ 1
 one_sort internal = refl
-one_sort (store v x) = refl
 one_sort (sends c m xs) = refl
 one_sort (receives c m ws) = refl
 
@@ -77,26 +73,22 @@ when_few false xs h = omega arith
 
 internal_few : (p n : ℕ) (a : Action) → length (internal_by p n a) ≤ one_internal a * 1
 internal_few p n internal = omega arith
-internal_few p n (store v x) = omega arith
 internal_few p n (sends c m xs) = omega arith
 internal_few p n (receives c m ws) = omega arith
 
 module _ (b : Behaviour) where
   send_few : (p n : ℕ) (a : Action) → length (send_by b p n a) ≤ one_send a * 1
   send_few p n internal = omega arith
-  send_few p n (store v x) = omega arith
   send_few p n (sends c m xs) = over_few _ _
   send_few p n (receives c m ws) = omega arith
 
   receive_few : (p n : ℕ) (a : Action) → length (receive_by b p n a) ≤ one_receive a * 1
   receive_few p n internal = omega arith
-  receive_few p n (store v x) = omega arith
   receive_few p n (sends c m xs) = omega arith
   receive_few p n (receives c m ws) = over_few _ _
 
   met_few : (s r : Offer) (c m : ℕ) (ks : List Kind) (a : Action) → length (receive_meets b s r c m ks a) ≤ one_receive a * 1
   met_few s r c m ks internal = omega arith
-  met_few s r c m ks (store v x) = omega arith
   met_few s r c m ks (sends d n xs) = omega arith
   met_few s r c m ks (receives d n ws) =
       when_few (not (eqb s.process r.process) && (eqb m n && same_kinds ks (target_kinds r.variables ws))) _
@@ -104,7 +96,6 @@ module _ (b : Behaviour) where
 
   of_pair : (s r : Offer) (a : Action) → length (send_meets b s r a) ≤ one_receive r.front.does * one_send a
   of_pair s r internal = omega arith
-  of_pair s r (store v x) = omega arith
   of_pair s r (sends c m xs) = met_few s r c m (map kind_of xs) r.front.does
   of_pair s r (receives c m ws) = omega arith
 

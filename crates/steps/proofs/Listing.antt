@@ -8,9 +8,9 @@ use Rattle.commands.specs.Trees.{Stmt, Behaviour, Class}
 use Rattle.heads.specs.Exchanges.{same_kinds}
 use Rattle.admission.specs.Conditions.{ClassKept}
 use Rattle.processes.proofs.Kept.{part_kept, few_fronts}
-use Rattle.processes.proofs.Numbered.{numbered}
+use Rattle.processes.proofs.Numbered.{numbered_before}
 use Rattle.processes.specs.Classes.{ProcessOf}
-use Rattle.processes.specs.Fronts.{Action, internal, store, sends, receives, Front, process_fronts}
+use Rattle.processes.specs.Fronts.{Action, internal, sends, receives, Front, process_fronts}
 use Rattle.processes.specs.Laws.{Ascend}
 use Rattle.records.specs.declared.step.Step.{Step}
 use Rattle.records.specs.Steps as step
@@ -35,7 +35,7 @@ few_of : (c : Class) (vs : List Val) (left : List Stmt) → ClassKept c → Proc
 few_of c vs [] k h = omega arith
 few_of c vs (s ∷ rest) k h =
     let own = part_kept (map kind_of c.variables) c.declarations c.statement s k.statement_kept h.parts.0 in
-    omega (arith, long 0 _ _ (numbered vs 0 s rest), few_fronts _ _ s own)
+    omega (arith, long 0 _ _ (numbered_before vs 0 s rest), few_fronts _ _ s own)
 
 few_offers : (cs : List Class) → AllByRecursion ClassKept cs → (p : ℕ) (ps : List Process) → AllByRecursion (ProcessKept cs) ps → length (offers_from p ps) ≤ 8 * length ps
 few_offers cs k p [] a = omega arith
@@ -59,26 +59,22 @@ when_apart false xs a = tt
 
 internal_apart : (p n : ℕ) (a : Action) → Apart Same (internal_by p n a)
 internal_apart p n internal = (λ y h e. h, tt)
-internal_apart p n (store v x) = (λ y h e. h, tt)
 internal_apart p n (sends c m xs) = tt
 internal_apart p n (receives c m ws) = tt
 
 module _ (b : Behaviour) where
   send_apart : (p n : ℕ) (a : Action) → Apart Same (send_by b p n a)
   send_apart p n internal = tt
-  send_apart p n (store v x) = tt
   send_apart p n (sends c m xs) = over_apart _ _
   send_apart p n (receives c m ws) = tt
 
   receive_apart : (p n : ℕ) (a : Action) → Apart Same (receive_by b p n a)
   receive_apart p n internal = tt
-  receive_apart p n (store v x) = tt
   receive_apart p n (sends c m xs) = tt
   receive_apart p n (receives c m ws) = over_apart _ _
 
   met_apart : (x r : Offer) (c m : ℕ) (ks : List Kind) (a : Action) → Apart Same (receive_meets b x r c m ks a)
   met_apart x r c m ks internal = tt
-  met_apart x r c m ks (store v y) = tt
   met_apart x r c m ks (sends d n xs) = tt
   met_apart x r c m ks (receives d n ws) =
       when_apart (not (eqb x.process r.process) && (eqb m n && same_kinds ks (target_kinds r.variables ws))) _
@@ -86,7 +82,6 @@ module _ (b : Behaviour) where
 
   meets_apart : (x r : Offer) (a : Action) → Apart Same (send_meets b x r a)
   meets_apart x r internal = tt
-  meets_apart x r (store v y) = tt
   meets_apart x r (sends c m xs) = met_apart x r c m (map kind_of xs) r.front.does
   meets_apart x r (receives c m ws) = tt
 

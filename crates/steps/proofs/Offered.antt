@@ -4,7 +4,7 @@ use Rattle.std.proofs.lemmas.Bool.{eq-eqb, ne_eqb}
 use Rattle.std.specs.List.{slice_get}
 use Rattle.values.specs.Values.{Val}
 use Rattle.commands.specs.Trees.{Stmt}
-use Rattle.processes.proofs.Numbered.{numbered}
+use Rattle.processes.proofs.Numbered.{numbered_before}
 use Rattle.processes.specs.Found.{front_numbered}
 use Rattle.processes.specs.Fronts.{Front, process_fronts}
 use Rattle.processes.specs.Laws.{Ascend}
@@ -36,7 +36,7 @@ front_found one x h = of one.variables one.left h
   where
     of : (vs : List Val) (left : List Stmt) → In x (process_fronts vs left) → front_numbered x.number (process_fronts vs left) ≡ Some x
     of vs [] k = absurd k
-    of vs (s ∷ rest) k = found 0 _ _ (numbered vs 0 s rest) x k
+    of vs (s ∷ rest) k = found 0 _ _ (numbered_before vs 0 s rest) x k
 
 -- the offers of a model
 pub record Offered (ps : List Process) (p : ℕ) (o : Offer) : Type 0 where
@@ -114,7 +114,7 @@ process_apart p one = fronts_apart p one _ (of one.variables one.left)
   where
     of : (vs : List Val) (left : List Stmt) → Apart (λ x y. x.number ≡ y.number) (process_fronts vs left)
     of vs [] = tt
-    of vs (s ∷ rest) = numbers_apart 0 _ _ (numbered vs 0 s rest)
+    of vs (s ∷ rest) = numbers_apart 0 _ _ (numbered_before vs 0 s rest)
 
 pub offers_apart : (p : ℕ) (ps : List Process) → Apart SameFront (offers_from p ps)
 offers_apart p [] = tt

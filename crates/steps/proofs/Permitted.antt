@@ -8,7 +8,7 @@ use Rattle.heads.specs.Exchanges.{exchange}
 use Rattle.admission.specs.Conditions.{Declares, HaveKinds}
 use Rattle.processes.proofs.Kept.{variable_kind, class_laws, permitted_by, brings_in}
 use Rattle.processes.specs.Classes.{PermittedBy, BringsOver, FrontOf}
-use Rattle.processes.specs.Fronts.{Action, internal, store, sends, receives, front, process_fronts}
+use Rattle.processes.specs.Fronts.{Action, internal, sends, receives, front, process_fronts}
 use Rattle.steps.specs.Declaring.{class_of}
 use Rattle.steps.specs.Kept.{ProcessKept, ModelKept}
 use Rattle.steps.specs.Models.{Model, class_numbered}
@@ -28,7 +28,6 @@ targets_have vs (w ∷ ws) (j ∷ js) h = let p = variable_kind vs w j h.0 in le
 
 quiet_brings : (ks : List Kind) (a : Action) (got : List Val) → Quiet a → BringsOver ks a got
 quiet_brings ks internal got h = tt
-quiet_brings ks (store v x) got h = tt
 quiet_brings ks (sends c m xs) got h = absurd h
 quiet_brings ks (receives c m ws) got h = absurd h
 
@@ -37,13 +36,13 @@ module _ (m : Model) (o : Offer) (h : OfferOf m o) where
   front_is = ap (λ w. offered_front w o.front.number) (process_is m o.process h.one h.numbered) ∙ front_found h.one o.front h.front
 
   pub sent_is : (c n : ℕ) (xs : List Val) → o.front.does ≡ sends c n xs → sent (offered_front (process_numbered m o.process) o.front.number) ≡ xs
-  sent_is c n xs e = ap sent front_is ∙ ap (λ a. sent (Some (front o.front.number a o.front.leaves))) e
+  sent_is c n xs e = ap sent front_is ∙ ap (λ a. sent (Some (front o.front.number a o.front.variables o.front.leaves))) e
 
   pub wanted_is : (c n : ℕ) (ws : List ℕ) → o.front.does ≡ receives c n ws → wanted (process_numbered m o.process).variables (offered_front (process_numbered m o.process) o.front.number) ≡ target_kinds h.one.variables ws
   wanted_is c n ws e =
       ap (λ w. wanted w.variables (offered_front (process_numbered m o.process) o.front.number)) (process_is m o.process h.one h.numbered)
       ∙ ap (wanted h.one.variables) front_is
-      ∙ ap (λ a. wanted h.one.variables (Some (front o.front.number a o.front.leaves))) e
+      ∙ ap (λ a. wanted h.one.variables (Some (front o.front.number a o.front.variables o.front.leaves))) e
 
   module _ (k : ModelKept m) where
     abbrev its_class : Class
@@ -52,9 +51,9 @@ module _ (m : Model) (o : Offer) (h : OfferOf m o) where
     one_kept : ProcessKept m.classes h.one
     one_kept = all_in (ProcessKept m.classes) m.processes k.processes_kept h.one (place_in h.one m.processes o.process h.numbered)
 
-    front_of : FrontOf its_class h.one.variables o.front
+    front_of : FrontOf its_class o.front
     front_of =
-        all_in (FrontOf its_class h.one.variables) (process_fronts h.one.variables h.one.left)
+        all_in (FrontOf its_class) (process_fronts h.one.variables h.one.left)
         (class_laws.fronts_kept its_class h.one.variables h.one.left (class_kept m.classes h.one.class k.classes_kept one_kept.of_class) one_kept.process)
         o.front h.front
 

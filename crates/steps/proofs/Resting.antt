@@ -4,7 +4,7 @@ use Rattle.std.specs.List.{slice_get}
 use Rattle.values.specs.Values.{Val, kind_of}
 use Rattle.commands.specs.Trees.{Expr, Stmt, skip, assign, send, receive, sequence, select, guard, branch, loop}
 use Rattle.processes.specs.Evaluation.{eval}
-use Rattle.processes.specs.Fronts.{Action, internal, store, sends, receives}
+use Rattle.processes.specs.Fronts.{Action, internal, sends, receives}
 use Rattle.processes.specs.Waiting.{Place, at_guard, at_command, ProcessWaits}
 use Rattle.records.specs.declared.step.Step.{Step}
 use Rattle.records.specs.Steps as step
@@ -97,7 +97,7 @@ module _ (vs : List Val) where
 
   send_at : (t : Stmt) (a : Action) (c n : ℕ) (xs : List Val) → Does vs t a → a ≡ sends c n xs → (es : List Expr) × (t ≡ send c n es) × (map (λ e. eval e vs) es ≡ xs)
   send_at skip a c n xs d e = clash internal (sends c n xs) (sym d ∙ e) tt (λ q. q)
-  send_at (assign v x) a c n xs d e = clash (store v (eval x vs)) (sends c n xs) (sym d ∙ e) tt (λ q. q)
+  send_at (assign v x) a c n xs d e = clash internal (sends c n xs) (sym d ∙ e) tt (λ q. q)
   send_at (send c' n' es) a c n xs d e =
       let k : sends c' n' (map (λ x. eval x vs) es) ≡ sends c n xs = sym d ∙ e in
       let i : c' ≡ c = cc k in
@@ -113,7 +113,7 @@ module _ (vs : List Val) where
 
   receive_at : (t : Stmt) (a : Action) (c n : ℕ) (ws : List ℕ) → Does vs t a → a ≡ receives c n ws → t ≡ receive c n ws
   receive_at skip a c n ws d e = clash internal (receives c n ws) (sym d ∙ e) tt (λ q. q)
-  receive_at (assign v x) a c n ws d e = clash (store v (eval x vs)) (receives c n ws) (sym d ∙ e) tt (λ q. q)
+  receive_at (assign v x) a c n ws d e = clash internal (receives c n ws) (sym d ∙ e) tt (λ q. q)
   receive_at (send c' n' es) a c n ws d e =
       let k : sends c' n' (map (λ x. eval x vs) es) ≡ receives c n ws = sym d ∙ e in absurd (let z : ◌≡◌ {A = ℕ} 0 1 = cc k in omega arith)
   receive_at (receive d' n' us) a c n ws d e =

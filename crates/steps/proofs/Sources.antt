@@ -7,7 +7,7 @@ use Rattle.values.specs.Values.{Val, kind_of}
 use Rattle.commands.specs.Trees.{Behaviour}
 use Rattle.heads.specs.Exchanges.{same_kinds}
 use Rattle.admission.proofs.Exchanges.{same_kinds_from, same_kinds_refl}
-use Rattle.processes.specs.Fronts.{Action, internal, store, sends, receives}
+use Rattle.processes.specs.Fronts.{Action, internal, sends, receives}
 use Rattle.records.specs.declared.step.Step.{Step}
 use Rattle.records.specs.Steps as step
 use Rattle.arrivals.specs.Climbing.{climb, meeting_channel}
@@ -17,7 +17,6 @@ use Rattle.steps.proofs.Members.{In, in_left, in_right, in_either, in_joined, jo
 -- an action that is a step by itself
 abbrev pub Quiet : Action → Type 0
 Quiet internal = Unit {0}
-Quiet (store v x) = Unit {0}
 Quiet (sends c m xs) = ⊥
 Quiet (receives c m ws) = ⊥
 
@@ -91,20 +90,17 @@ in_when t xs s e h = subst (λ w. In s (cond w xs [])) (sym e) h
 -- each sort of step, both ways
 pub internal_is : (p n : ℕ) (a : Action) (s : Step) → In s (internal_by p n a) → Quiet a × (s ≡ step.internal p n)
 internal_is p n internal s h = ⊎_elim (λ e. (tt, e)) (λ k. absurd k) h
-internal_is p n (store v x) s h = ⊎_elim (λ e. (tt, e)) (λ k. absurd k) h
 internal_is p n (sends c m xs) s h = absurd h
 internal_is p n (receives c m ws) s h = absurd h
 
 internal_in : (p n : ℕ) (a : Action) (s : Step) → Quiet a → s ≡ step.internal p n → In s (internal_by p n a)
 internal_in p n internal s q e = inl e
-internal_in p n (store v x) s q e = inl e
 internal_in p n (sends c m xs) s q e = absurd q
 internal_in p n (receives c m ws) s q e = absurd q
 
 module _ (b : Behaviour) where
   pub send_is : (p n : ℕ) (a : Action) (s : Step) → In s (send_by b p n a) → SendsOut b p n a s
   send_is p n internal s h = absurd h
-  send_is p n (store v x) s h = absurd h
   send_is p n (sends c m xs) s h =
       let q = over_is (climb b p c) (λ k. step.outside_send p n k m) s h in
       record { channel = c; message = m; values = xs; passed = q.0; does = refl; passes = q.1; is = q.2 }
@@ -115,7 +111,6 @@ module _ (b : Behaviour) where
 
   pub receive_is : (p n : ℕ) (a : Action) (s : Step) → In s (receive_by b p n a) → ReceivesIn b p n a s
   receive_is p n internal s h = absurd h
-  receive_is p n (store v x) s h = absurd h
   receive_is p n (sends c m xs) s h = absurd h
   receive_is p n (receives c m ws) s h =
       let q = over_is (climb b p c) (λ k. step.outside_receive p n k m) s h in
@@ -127,7 +122,6 @@ module _ (b : Behaviour) where
   module _ (x r : Offer) where
     met_is : (c m : ℕ) (ks : List Kind) (a : Action) (s : Step) → In s (receive_meets b x r c m ks a) → ReceivesFrom b x r c m ks a s
     met_is c m ks internal s h = absurd h
-    met_is c m ks (store v y) s h = absurd h
     met_is c m ks (sends d n xs) s h = absurd h
     met_is c m ks (receives d n ws) s h =
         let w = when_in (not (eqb x.process r.process) && (eqb m n && same_kinds ks (target_kinds r.variables ws))) _ s h in
@@ -159,7 +153,6 @@ module _ (b : Behaviour) where
 
     pub meets_is : (a : Action) (s : Step) → In s (send_meets b x r a) → Meets b x r a s
     meets_is internal s h = absurd h
-    meets_is (store v y) s h = absurd h
     meets_is (sends c m xs) s h = record { channel = c; message = m; values = xs; does = refl; receiver = met_is c m (map kind_of xs) r.front.does s h }
     meets_is (receives c m ws) s h = absurd h
 

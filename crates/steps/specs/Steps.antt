@@ -5,7 +5,7 @@ use Rattle.values.specs.declared.kind.Kind.{Kind}
 use Rattle.values.specs.Values.{Val, integer, kind_of}
 use Rattle.commands.specs.Trees.{Behaviour}
 use Rattle.heads.specs.Exchanges.{same_kinds}
-use Rattle.processes.specs.Fronts.{Action, internal, store, sends, receives, Front, process_fronts}
+use Rattle.processes.specs.Fronts.{Action, internal, sends, receives, Front, process_fronts}
 use Rattle.records.specs.declared.step.Step.{Step}
 use Rattle.records.specs.Steps as step
 use Rattle.arrivals.specs.Climbing.{climb, meeting_channel}
@@ -46,7 +46,6 @@ agreed (Some k) (Some l) = cond (k == l) (Some k) None
 -- an internal front is a step by itself
 abbrev pub internal_by : ℕ → ℕ → Action → List Step
 internal_by p n internal = step.internal p n ∷ []
-internal_by p n (store v x) = step.internal p n ∷ []
 internal_by p n (sends c m xs) = []
 internal_by p n (receives c m ws) = []
 
@@ -56,7 +55,6 @@ internal_steps o = internal_by o.process o.front.number o.front.does
 -- a send and a receive of two different processes meet at the lowest PAR above both, where channel, message, count and kinds agree
 abbrev pub receive_meets : Behaviour → Offer → Offer → ℕ → ℕ → List Kind → Action → List Step
 receive_meets b s r c m ks internal = []
-receive_meets b s r c m ks (store v x) = []
 receive_meets b s r c m ks (sends d n xs) = []
 receive_meets b s r c m ks (receives d n ws) =
     cond (not (s.process == r.process) && (m == n && same_kinds ks (target_kinds r.variables ws)))
@@ -66,7 +64,6 @@ receive_meets b s r c m ks (receives d n ws) =
 
 abbrev pub send_meets : Behaviour → Offer → Offer → Action → List Step
 send_meets b s r internal = []
-send_meets b s r (store v x) = []
 send_meets b s r (sends c m xs) = receive_meets b s r c m (map kind_of xs) r.front.does
 send_meets b s r (receives c m ws) = []
 
@@ -76,7 +73,6 @@ meeting_steps b s r = send_meets b s r s.front.does
 -- a front whose channel passes the root is outside
 abbrev pub send_by : Behaviour → ℕ → ℕ → Action → List Step
 send_by b p n internal = []
-send_by b p n (store v x) = []
 send_by b p n (sends c m xs) = over (climb b p c) (λ k. step.outside_send p n k m)
 send_by b p n (receives c m ws) = []
 
@@ -85,7 +81,6 @@ outside_sends b o = send_by b o.process o.front.number o.front.does
 
 abbrev pub receive_by : Behaviour → ℕ → ℕ → Action → List Step
 receive_by b p n internal = []
-receive_by b p n (store v x) = []
 receive_by b p n (sends c m xs) = []
 receive_by b p n (receives c m ws) = over (climb b p c) (λ k. step.outside_receive p n k m)
 

@@ -4,7 +4,7 @@ use Rattle.values.specs.declared.kind.Kind.{Kind}
 use Rattle.values.specs.Values.{Val, kind_of}
 use Rattle.heads.specs.Exchanges.{same_kinds}
 use Rattle.processes.specs.Classes.{after}
-use Rattle.processes.specs.Fronts.{Action, internal, store, sends, receives, Front, process_fronts}
+use Rattle.processes.specs.Fronts.{Action, internal, sends, receives, Front, process_fronts}
 use Rattle.processes.specs.Found.{front_numbered}
 use Rattle.records.specs.declared.step.Step.{Step}
 use Rattle.steps.specs.declared.refusal.StepRefusal.{StepRefusal}
@@ -26,7 +26,7 @@ offered_front one n = front_numbered n (process_fronts one.variables one.left)
 -- a process after one of its fronts, with the values that it receives
 abbrev pub gone_on : Process → Option Front → List Val → Process
 gone_on one None got = one
-gone_on one (Some x) got = record { class = one.class; left = x.leaves; variables = after one.variables x.does got }
+gone_on one (Some x) got = record { class = one.class; left = x.leaves; variables = after x.variables x.does got }
 
 abbrev pub moved : Process → ℕ → List Val → Process
 moved one n got = gone_on one (offered_front one n) got
@@ -43,7 +43,6 @@ sent (Some x) = by_action x.does
   where
     by_action : Action → List Val
     by_action internal = []
-    by_action (store v y) = []
     by_action (sends c m xs) = xs
     by_action (receives c m ws) = []
 
@@ -67,7 +66,6 @@ wanted vs (Some x) = by_action x.does
   where
     by_action : Action → List Kind
     by_action internal = []
-    by_action (store v y) = []
     by_action (sends c m xs) = []
     by_action (receives c m ws) = target_kinds vs ws
 

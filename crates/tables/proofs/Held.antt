@@ -10,7 +10,7 @@ use Rattle.heads.specs.Exchanges.{exchange}
 use Rattle.admission.specs.Conditions.{HaveKinds, DeclarationKept}
 use Rattle.processes.specs.Classes.{PermittedBy, FrontKept}
 use Rattle.processes.specs.Evaluation.{values_of}
-use Rattle.processes.specs.Fronts.{Action, internal, store, sends, receives, Front, process_fronts}
+use Rattle.processes.specs.Fronts.{Action, internal, sends, receives, Front, process_fronts}
 use Rattle.processes.proofs.Ascending.{ascend_short}
 use Rattle.processes.proofs.Kept.{class_laws}
 use Rattle.listing.specs.Offers.{HoldableAction, Holdable}
@@ -38,7 +38,6 @@ as_many ks (w ∷ ws) (j ∷ js) h = ap suc (as_many ks ws js h.1)
 
 action_held : (ks : List Kind) (ds : List Declaration) (a : Action) → AllByRecursion DeclarationKept ds → PermittedBy ks ds a → HoldableAction a
 action_held ks ds internal k p = tt
-action_held ks ds (store v x) k p = tt
 action_held ks ds (sends c m xs) k p =
     let d = (declared_kept ds (exchange false c m (map kind_of xs)) p.0 k p.1).exchange_kept in
     (d.channel_kept, omega (arith, d.count_kept, length-map xs kind_of))
@@ -46,9 +45,9 @@ action_held ks ds (receives c m ws) k p =
     let d = (declared_kept ds (exchange true c m p.0) p.2.0 k p.2.1).exchange_kept in
     (d.channel_kept, omega (arith, d.count_kept, as_many ks ws p.0 p.1))
 
-fronts_held : (ks : List Kind) (ds : List Declaration) (vs us : List Val) (p : ℕ) (fs : List Front) → p < 8 → AllByRecursion DeclarationKept ds → AllByRecursion (FrontKept ks ds us) fs → AllByRecursion Holdable (map (λ x. record { process = p; variables = vs; front = x }) fs)
-fronts_held ks ds vs us p [] l k a = tt
-fronts_held ks ds vs us p (x ∷ fs) l k a = (record { numbered = l; action = action_held ks ds x.does k a.0.permitted }, fronts_held ks ds vs us p fs l k a.1)
+fronts_held : (ks : List Kind) (ds : List Declaration) (vs : List Val) (p : ℕ) (fs : List Front) → p < 8 → AllByRecursion DeclarationKept ds → AllByRecursion (FrontKept ks ds) fs → AllByRecursion Holdable (map (λ x. record { process = p; variables = vs; front = x }) fs)
+fronts_held ks ds vs p [] l k a = tt
+fronts_held ks ds vs p (x ∷ fs) l k a = (record { numbered = l; action = action_held ks ds x.does k a.0.permitted }, fronts_held ks ds vs p fs l k a.1)
 
 module _ (f : List ℕ) (n : ℕ) (bs : Bytes f) (t : Table) (count : ℕ) (sound : SoundTable f n t count) where
   process_held : (p : ℕ) → p < count → AllByRecursion Holdable (offers_of p (process_in f t p))
@@ -59,7 +58,7 @@ module _ (f : List ℕ) (n : ℕ) (bs : Bytes f) (t : Table) (count : ℕ) (soun
       let c = class_in_file f n e.class in
       let s = g.of_its_class.stands in
       let all = class_laws.statements_kept (kinds_of_class f n e) c.declarations (values_of rows) (left_in f e.left) g.of_its_class.same_kinds_of s.kept s.room in
-      fronts_held (kinds_of_class f n e) c.declarations (values_of rows) (values_of rows) p (process_fronts (values_of rows) (left_in f e.left)) (omega (arith, l, sound.few)) g.class_kept.declarations_kept all
+      fronts_held (kinds_of_class f n e) c.declarations (values_of rows) p (process_fronts (values_of rows) (left_in f e.left)) (omega (arith, l, sound.few)) g.class_kept.declarations_kept all
 
   process_few : (p : ℕ) → p < count → length (offers_of p (process_in f t p)) ≤ 8
   process_few p l =

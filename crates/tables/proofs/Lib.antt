@@ -1,6 +1,5 @@
 pub mod Sound
 pub mod Admitted
-pub mod Kinding
 pub mod Gathering
 pub mod Storing
 pub mod Moved

@@ -11,7 +11,7 @@ use Rattle.commands.specs.ByteLists.{Bytes}
 use Rattle.processes.specs.declared.front.Front.{Front as FrontC}
 use Rattle.processes.specs.Classes.{after, BringsOver, FrontKept}
 use Rattle.processes.specs.Evaluation.{values_of}
-use Rattle.processes.specs.Found.{action_of, front_numbered, StandsFor}
+use Rattle.processes.specs.Found.{action_of, own_work, front_numbered, StandsFor}
 use Rattle.processes.specs.Fronts.{Front, process_fronts}
 use Rattle.processes.specs.Places.{places_of}
 use Rattle.processes.proofs.Kept.{class_laws}
@@ -24,7 +24,7 @@ use Rattle.tables.specs.Rows.{no_entry, rows_of}
 use Rattle.tables.specs.Views.{left_in, view, process_in, class_in_file, of_class, sound_entry}
 use Rattle.tables.proofs.Admitted.{Good, good}
 use Rattle.tables.proofs.Sound.{all_read, and_true, kept_sound}
-use Rattle.tables.proofs.Storing.{take_after}
+use Rattle.tables.proofs.Storing.{take_after, take_own_work}
 
 -- what holds of all fronts holds of the one of a number
 pub of_number : (P : Front → Type 0) (n : ℕ) (fs : List Front) (y : Front) → AllByRecursion P fs → front_numbered n fs ≡ Some y → P y
@@ -39,7 +39,7 @@ of_number P n (x ∷ fs) y a h = by (λ k. of_number P n fs y a.1 k) (eqb x.numb
 abbrev pub kinds_of_class : List ℕ → ℕ → Entry → List Kind
 kinds_of_class f n e = map kind_of (class_in_file f n e.class).variables
 
-pub front_kept : (f : List ℕ) (n : ℕ) (e : Entry) (rows : List Row) (number : ℕ) (y : Front) → Good f n e rows → offered_front (view f e rows) number ≡ Some y → FrontKept (kinds_of_class f n e) (class_in_file f n e.class).declarations (values_of rows) y
+pub front_kept : (f : List ℕ) (n : ℕ) (e : Entry) (rows : List Row) (number : ℕ) (y : Front) → Good f n e rows → offered_front (view f e rows) number ≡ Some y → FrontKept (kinds_of_class f n e) (class_in_file f n e.class).declarations y
 front_kept f n e rows number y g h =
     let c = class_in_file f n e.class in
     let s = g.of_its_class.stands in
@@ -56,7 +56,7 @@ module _ (f : List ℕ) (n : ℕ) (bs : Bytes f) (t u : Table) (p : ℕ) (x : Fr
   pub moves : p < 8
       → SoundProcess f n (get_or t.entries p no_entry) (rows_of t p)
       → offered_front (process_in f t p) number ≡ Some y
-      → StandsFor f x y
+      → StandsFor f (values_of (rows_of t p)) x y
       → BringsOver (kinds_of_class f n (get_or t.entries p no_entry)) y.does got
       → Advanced t u p x got
       → Moves f n t u p y got
@@ -69,13 +69,14 @@ module _ (f : List ℕ) (n : ℕ) (bs : Bytes f) (t u : Table) (p : ℕ) (x : Fr
       let here : get_or u.entries p no_entry ≡ with_left e x.leaves = ap (λ es. get_or es p no_entry) adv.entries ∙ get_or-set_same t.entries p (with_left e x.leaves) no_entry (omega (arith, adv.eight_entries, lp)) in
       let row : get_or u.rows p [] ≡ new = ap (λ rs. get_or rs p []) adv.rows.1 ∙ get_or-set_same t.rows p new [] (omega (arith, adv.eight_rows, lp)) in
       let rows : rows_of u p ≡ take e.variables new = (λ i. take (here i).variables (row i)) in
-      let values : values_of (rows_of u p) ≡ after (values_of (rows_of t p)) y.does got =
+      let values : values_of (rows_of u p) ≡ after y.variables y.does got =
       ap values_of rows
       ∙ sym (take-map value_of_row e.variables new)
       ∙ ap (take e.variables) adv.rows.2
-      ∙ take_after e.variables (values_of (get_or t.rows p [])) (action_of x.action) got
-      ∙ ap (λ vs. after vs (action_of x.action) got) (take-map value_of_row e.variables (get_or t.rows p []))
-      ∙ ap (λ a. after (values_of (rows_of t p)) a got) stands.does
+      ∙ take_after e.variables (own_work (values_of (get_or t.rows p [])) x.action) (action_of x.action) got
+      ∙ ap (λ vs. after vs (action_of x.action) got) (take_own_work e.variables (values_of (get_or t.rows p [])) x.action)
+      ∙ ap (λ vs. after (own_work vs x.action) (action_of x.action) got) (take-map value_of_row e.variables (get_or t.rows p []))
+      ∙ (λ i. after (stands.variables i) (stands.does i) got)
       in
       let left : left_in f x.leaves ≡ y.leaves = all_read f (places_of x.leaves) y.leaves stands.leaves fk.room in
       let kinds : map kind_of (values_of (rows_of u p)) ≡ map kind_of c.variables = ap (map kind_of) values ∙ fk.kinds got brings in

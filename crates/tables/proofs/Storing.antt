@@ -5,7 +5,10 @@ use Rattle.values.specs.declared.row.Row.{Row}
 use Rattle.values.specs.Rows.{value_of_row}
 use Rattle.values.specs.Values.{Val}
 use Rattle.processes.specs.Classes.{stored, after}
-use Rattle.processes.specs.Fronts.{Action, internal, store, sends, receives}
+use Rattle.processes.specs.declared.front.Action.{Action as ActionC}
+use Rattle.processes.specs.declared.front.Action.TheVariants.{Internal, Store, Send, Receive}
+use Rattle.processes.specs.Found.{own_work}
+use Rattle.processes.specs.Fronts.{Action, internal, sends, receives}
 use Rattle.processes.specs.Evaluation.{values_of}
 
 -- nothing is stored where no values are left
@@ -42,8 +45,13 @@ take_stored n vs [] got = refl
 take_stored n vs (w ∷ ws) [] = refl
 take_stored n vs (w ∷ ws) (x ∷ got) = take_stored n (set vs w x) ws got ∙ ap (λ us. stored us ws got) (take_set n vs w x)
 
+pub take_own_work : (n : ℕ) (vs : List Val) (a : ActionC) → take n (own_work vs a) ≡ own_work (take n vs) a
+take_own_work n vs Internal = refl
+take_own_work n vs (Store v row) = take_set n vs v (value_of_row row)
+take_own_work n vs (Send c m s) = refl
+take_own_work n vs (Receive c m t) = refl
+
 pub take_after : (n : ℕ) (vs : List Val) (a : Action) (got : List Val) → take n (after vs a got) ≡ after (take n vs) a got
 take_after n vs internal got = refl
-take_after n vs (store v x) got = take_set n vs v x
 take_after n vs (sends c m xs) got = refl
 take_after n vs (receives c m ws) got = take_stored n vs ws got

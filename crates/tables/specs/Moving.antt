@@ -6,7 +6,7 @@ use Rattle.processes.specs.declared.front.Front.{Front}
 use Rattle.processes.specs.declared.left.Left.{Left}
 use Rattle.processes.specs.Classes.{after}
 use Rattle.processes.specs.Evaluation.{values_of}
-use Rattle.processes.specs.Found.{action_of}
+use Rattle.processes.specs.Found.{action_of, own_work}
 use Rattle.tables.specs.declared.table.Entry.{Entry}
 use Rattle.tables.specs.declared.table.Table.{Table}
 use Rattle.tables.specs.Rows.{no_entry}
@@ -20,4 +20,4 @@ pub record Advanced (before after_it : Table) (p : ℕ) (x : Front) (got : List 
   pub eight_entries : length before.entries ≡ 8
   pub eight_rows : length before.rows ≡ 8
   pub entries : after_it.entries ≡ slice_set before.entries p (with_left (slice_index_or before.entries p no_entry) x.leaves)
-  pub rows : (new : List Row) × (after_it.rows ≡ slice_set before.rows p new) × (values_of new ≡ after (values_of (slice_index_or before.rows p [])) (action_of x.action) got)
+  pub rows : (new : List Row) × (after_it.rows ≡ slice_set before.rows p new) × (values_of new ≡ after (own_work (values_of (slice_index_or before.rows p [])) x.action) (action_of x.action) got)

@@ -8,7 +8,7 @@ ghost use Rattle.processes.specs.Found.{action_of};
 ghost use Rattle.listing.specs.Offers.{kind_places};
 ghost use Rattle.tables.specs.Exchanging.{wanted_by, sent_by, rows_in};
 
-use crate::offers::{kinds_of, kinds_of_targets};
+use offering::kinds::{kinds_of, kinds_of_targets};
 use processes::front::{Action, Sent};
 use values::few::Few;
 use values::kind::Kind;

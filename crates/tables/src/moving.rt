@@ -2,7 +2,7 @@
 ghost use Rattle.std.specs.Prelude.{◌≡◌, ◌<◌, slice_set};
 ghost use Rattle.processes.specs.Classes.{stored, after};
 ghost use Rattle.processes.specs.Evaluation.{values_of};
-ghost use Rattle.processes.specs.Found.{action_of};
+ghost use Rattle.processes.specs.Found.{action_of, own_work};
 ghost use Rattle.tables.specs.Moving.{Advanced};
 
 use crate::table::Table;
@@ -34,7 +34,7 @@ fn store_values(rows: &mut [Row], targets: &[u8], got: &[Row])
 
 // The variables after an action, with the values that it receives.
 fn after_action(rows: [Row; 8], action: &Action, got: &[Row]) -> [Row; 8]
-    ensures { values_of result ≡ after (values_of rows) (action_of action.now) (values_of got.now) }
+    ensures { values_of result ≡ after (own_work (values_of rows) action.now) (action_of action.now) (values_of got.now) }
 {
     let mut next = rows;
     match action {

@@ -20,13 +20,14 @@ use values::row::Row;
 impl Model {
     // The front of a number of process `p`; none where there is no such process or front.
     pub(super) fn front(&self, p: u8, number: u8) -> Option<Front>
-        ensures front { Answers (bytes_of self.now) result (offered_front (process_numbered (model_of self.now) p) number) }
+        ensures front { Answers (bytes_of self.now) (process_numbered (model_of self.now) p).variables result (offered_front (process_numbered (model_of self.now) p) number) }
         ensures bytes { p < self.now.count → Bytes (bytes_of self.now) }
     {
         if p >= self.count {
             return None;
         }
-        let entry = self.table.entries[p as usize];
+        let table = &self.table;
+        let entry = table.entries[p as usize];
         front_of(
             self.bytes(),
             self.classes,

@@ -10,4 +10,4 @@ use Rattle.processes.proofs.front.sent_values.Given as goal
 abbrev pub invariant-loop-i : goal.invariant-loop-i
 invariant-loop-i l =
     (length (listed l.sent) ≡ l._i)
-    × ((es : List Expr) → l.count ≡ length es → ExprsAt l.file l.at es → Sending l.file (values_of l.variables) (l.count - l._i) l.place (values_in l.sent) (map (λ e. eval e (values_of l.variables)) es))
+    × ((es : List Expr) → l.count ≡ length es → ExprsAt l.file l.at es → Sending l.file (λ e. eval e (values_of l.variables)) (l.count - l._i) l.place (values_in l.sent) (map (λ e. eval e (values_of l.variables)) es))

@@ -31,7 +31,7 @@ returns-in-Some c =
     let s = c.args.step.now in
     let values = c.args.values.now in
     let one = process_numbered (model_of m) s.process in
-    let a = answered (bytes_of m) c.in-Some.front (offered_front one s.front) c.in-Some.ensures.front in
+    let a = answered (bytes_of m) one.variables c.in-Some.front (offered_front one s.front) c.in-Some.ensures.front in
     let there = process_there m s.process c.if-step-self.false in
     record {
       exact =
@@ -48,6 +48,6 @@ returns-in-None c =
     let s = c.args.step.now in
     let values = c.args.values.now in
     record {
-      exact = c.is_empty-in-None.ensures ∙ fits_without (model_of m) s values (unanswered (bytes_of m) _ c.in-None.ensures.front);
+      exact = c.is_empty-in-None.ensures ∙ fits_without (model_of m) s values (unanswered (bytes_of m) (process_numbered (model_of m) s.process).variables _ c.in-None.ensures.front);
       short = λ h. no_values_few values (sym c.is_empty-in-None.ensures ∙ h);
     }

@@ -1,4 +1,5 @@
 use Rattle.processes.specs.Evaluation.{values_of}
+use Rattle.steps.specs.Taking.{process_numbered}
 use Rattle.models.specs.Views.{bytes_of, model_of}
 use Rattle.models.proofs.Going.{unanswered, absent_stays, none_stays, still_sound, goes_on}
 use Rattle.models.proofs.model.Model.go_on.Goals as goal
@@ -24,4 +25,4 @@ returns-in-Some c =
     (λ i. record { classes = (model_of m).classes; behaviour = (model_of m).behaviour; processes = e i })
 
 pub returns-in_default : goal.returns-in_default
-returns-in_default c = none_stays c.args.self.now c.args.p c.args.number (values_of c.args.got.now) (unanswered (bytes_of c.args.self.now) _ c.in_default.ensures.front)
+returns-in_default c = none_stays c.args.self.now c.args.p c.args.number (values_of c.args.got.now) (unanswered (bytes_of c.args.self.now) (process_numbered (model_of c.args.self.now) c.args.p).variables _ c.in_default.ensures.front)

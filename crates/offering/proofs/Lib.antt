@@ -1,0 +1,3 @@
+pub mod Kinding
+pub mod Placing
+pub mod Walking
