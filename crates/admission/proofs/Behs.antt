@@ -6,8 +6,8 @@ use Rattle.commands.specs.Behaviours.{behaviour_command}
 use Rattle.commands.specs.Depths.{behaviour_depth}
 use Rattle.commands.specs.Stands.{BehaviourAt}
 use Rattle.commands.specs.Trees.{Behaviour, process, parallel, hide, rename, behaviour_size}
-use Rattle.heads.specs.declared.fault.FaultKind.TheVariants.{Command, Operand, Processes}
-use Rattle.heads.specs.declared.fault.Layer.TheVariants.{Behaviour as BehaviourL}
+use Rattle.answers.specs.declared.fault.FaultKind.TheVariants.{Command, Operand, Processes}
+use Rattle.answers.specs.declared.fault.Layer.TheVariants.{Behaviour as BehaviourL}
 use Rattle.heads.specs.Checked.{known}
 use Rattle.files.specs.Behaviours.{Procs, behaviour_parts, check_behaviour}
 use Rattle.commands.specs.ByteLists.{Bytes}

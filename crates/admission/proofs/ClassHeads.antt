@@ -6,8 +6,8 @@ use Rattle.values.specs.declared.row.Row.{Row}
 use Rattle.values.specs.Laws.{Ranged}
 use Rattle.values.specs.Rows.{valid, value_of_row, row_kind}
 use Rattle.values.specs.Values.{Val, integer, boolean, kind_of, unknown_of, in_range, is_zero}
-use Rattle.heads.specs.declared.fault.FaultKind.TheVariants.{ClassHead}
-use Rattle.heads.specs.declared.fault.Layer.TheVariants.{ClassHead as ClassHeadL}
+use Rattle.answers.specs.declared.fault.FaultKind.TheVariants.{ClassHead}
+use Rattle.answers.specs.declared.fault.Layer.TheVariants.{ClassHead as ClassHeadL}
 use Rattle.heads.specs.Checked.{Checked, ask, ◌>>◌}
 use Rattle.heads.specs.Heads.{byte, integer_at, row_at, values_at, kinds_at, value_kinds, declarations_at, field, is_kind, check_variable, check_variables, kind_fits, check_kind, check_exchange, check_declaration, check_declarations, check_head, declarations_place}
 use Rattle.commands.specs.ByteLists.{Bytes}

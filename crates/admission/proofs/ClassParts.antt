@@ -6,8 +6,8 @@ use Rattle.values.specs.Values.{Val, kind_of}
 use Rattle.commands.specs.Bytes.{head_size, class_size, classes_size}
 use Rattle.commands.specs.Stands.{StmtAt}
 use Rattle.commands.specs.Trees.{Class, stmt_size}
-use Rattle.heads.specs.declared.fault.FaultKind.TheVariants.{ClassHead, Command}
-use Rattle.heads.specs.declared.fault.Layer.TheVariants.{ClassHead as ClassHeadL, Statement as StatementL}
+use Rattle.answers.specs.declared.fault.FaultKind.TheVariants.{ClassHead, Command}
+use Rattle.answers.specs.declared.fault.Layer.TheVariants.{ClassHead as ClassHeadL, Statement as StatementL}
 use Rattle.files.specs.Files.{levels, check_body, check_class, check_classes}
 use Rattle.heads.specs.Heads.{byte, word_at, values_at, check_head, class_kinds, declarations_place, class_declarations}
 use Rattle.files.specs.Statements.{check_statement}

@@ -1,7 +1,7 @@
 -- The check's answer decides whether a file is admitted.
 use Rattle.std.proofs.Common.{◌≡◌, ℕ, suc, ◌<◌, List, [], ◌∷◌, get_or, is_ok, Ok, Err, Decides, Result, sym, refl, ap, arith}
 use Rattle.commands.specs.ByteLists.{Bytes}
-use Rattle.heads.specs.declared.fault.LoadFault.{LoadFault}
+use Rattle.answers.specs.declared.fault.LoadFault.{LoadFault}
 use Rattle.files.specs.declared.file.Summary.{Summary}
 use Rattle.files.specs.Files.{check_file}
 use Rattle.files.specs.Summaries.{summed}

@@ -12,8 +12,8 @@ use Rattle.commands.specs.Depths.{expr_depth, exprs_depth}
 use Rattle.commands.specs.Expressions.{expression_command, leaf_size}
 use Rattle.commands.specs.Stands.{ExprAt, ExprsAt}
 use Rattle.commands.specs.Trees.{Expr, leaf, binary, negation, expr_size, exprs_size}
-use Rattle.heads.specs.declared.fault.FaultKind.TheVariants.{Command, Operand, PartKind}
-use Rattle.heads.specs.declared.fault.Layer.TheVariants.{Expression}
+use Rattle.answers.specs.declared.fault.FaultKind.TheVariants.{Command, Operand, PartKind}
+use Rattle.answers.specs.declared.fault.Layer.TheVariants.{Expression}
 use Rattle.heads.specs.Checked.{ask, known}
 use Rattle.files.specs.Expressions.{End, check_expression, expression_parts, leaf_kind, first_fits}
 use Rattle.files.specs.Statements.{check_values}

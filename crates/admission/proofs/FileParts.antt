@@ -3,8 +3,8 @@ use Rattle.std.proofs.Common.{◌≡◌, ℕ, ◌+◌, ◌≤◌, ◌&&◌, eqb,
 use Rattle.commands.specs.Bytes.{classes_size, file_bytes}
 use Rattle.commands.specs.Stands.{BehaviourAt}
 use Rattle.commands.specs.Trees.{File, behaviour_size}
-use Rattle.heads.specs.declared.fault.FaultKind.TheVariants.{Length, FirstBytes, Command}
-use Rattle.heads.specs.declared.fault.Layer.TheVariants.{File as FileL, Behaviour as BehaviourL}
+use Rattle.answers.specs.declared.fault.FaultKind.TheVariants.{Length, FirstBytes, Command}
+use Rattle.answers.specs.declared.fault.Layer.TheVariants.{File as FileL, Behaviour as BehaviourL}
 use Rattle.files.specs.Behaviours.{check_behaviour}
 use Rattle.files.specs.Files.{levels, check_classes, check_header, Summary, check_file}
 use Rattle.heads.specs.Heads.{byte}

@@ -3,8 +3,8 @@ use Rattle.std.proofs.Common.{◌≡◌, ℕ, Bool, true, false, ◌&&◌, Some,
 use Rattle.values.specs.declared.kind.Kind.{Kind}
 use Rattle.values.specs.declared.kind.Kind.TheVariants.{Integer, Boolean}
 use Rattle.values.specs.Kinds.{same_kind}
-use Rattle.heads.specs.declared.fault.FaultKind.{FaultKind}
-use Rattle.heads.specs.declared.fault.Layer.{Layer}
+use Rattle.answers.specs.declared.fault.FaultKind.{FaultKind}
+use Rattle.answers.specs.declared.fault.Layer.{Layer}
 use Rattle.heads.specs.Checked.{Checked, ask, known, ◌>>=◌, ◌>>◌}
 
 pub bind_ok : {A B : Type 0} (x : Checked A) (g : A → Checked B) (v : B) → (x >>= g) ≡ Ok v → (a : A) × (x ≡ Ok a) × (g a ≡ Ok v)

@@ -5,7 +5,7 @@ use Rattle.commands.specs.ByteLists.{Bytes}
 use Rattle.commands.specs.Bytes.{file_bytes, head_size, class_size, classes_size}
 use Rattle.commands.specs.Trees.{Class, File}
 use Rattle.commands.proofs.Cuts.{stmt_uncut}
-use Rattle.heads.specs.declared.fault.LoadFault.{LoadFault}
+use Rattle.answers.specs.declared.fault.LoadFault.{LoadFault}
 use Rattle.files.specs.declared.file.Summary.{Summary}
 use Rattle.heads.specs.Checked.{◌>>=◌}
 use Rattle.files.specs.Files.{check_file, levels}

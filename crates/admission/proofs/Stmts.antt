@@ -11,8 +11,8 @@ use Rattle.commands.specs.Depths.{expr_depth, stmt_depth}
 use Rattle.commands.specs.Stands.{ExprAt, StmtAt}
 use Rattle.commands.specs.Statements.{statement_command}
 use Rattle.commands.specs.Trees.{Expr, Stmt, skip, assign, send, receive, sequence, select, guard, branch, loop, Declaration, expr_size, exprs_size, stmt_size}
-use Rattle.heads.specs.declared.fault.FaultKind.TheVariants.{Command, Operand, PartKind, Undeclared, Fronts}
-use Rattle.heads.specs.declared.fault.Layer.TheVariants.{Expression, Statement}
+use Rattle.answers.specs.declared.fault.FaultKind.TheVariants.{Command, Operand, PartKind, Undeclared, Fronts}
+use Rattle.answers.specs.declared.fault.Layer.TheVariants.{Expression, Statement}
 use Rattle.heads.specs.Checked.{Checked, known, ◌>>=◌}
 use Rattle.files.specs.Expressions.{check_expression}
 use Rattle.files.specs.Statements.{Behind, exchange_fits, variables_fit, kinds_of, check_values, check_test, few_fronts, statement_parts, check_statement}

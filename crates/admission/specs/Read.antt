@@ -4,7 +4,7 @@ use Rattle.commands.specs.Bytes.{file_bytes, head_size, class_size, classes_size
 use Rattle.commands.specs.ByteLists.{Bytes}
 use Rattle.commands.specs.Stands.{StmtAt, BehaviourAt}
 use Rattle.commands.specs.Trees.{Class, File}
-use Rattle.heads.specs.declared.fault.LoadFault.{LoadFault}
+use Rattle.answers.specs.declared.fault.LoadFault.{LoadFault}
 use Rattle.files.specs.declared.file.Summary.{Summary}
 use Rattle.heads.specs.Checked.{Checked, ◌>>=◌}
 use Rattle.files.specs.Files as files

@@ -1,7 +1,7 @@
 -- Worked samples: files, and what the check answers.
 use Rattle.std.specs.Prelude.{◌≡◌, ℕ, zero, suc, ◌+◌, List, [], ◌∷◌, ◌++◌, length, take, Ok, Err, slice_set}
-use Rattle.heads.specs.declared.fault.FaultKind.TheVariants.{Command, Depth, Operand, Undeclared, Fronts}
-use Rattle.heads.specs.declared.fault.Layer.TheVariants.{Statement, Expression, Behaviour}
+use Rattle.answers.specs.declared.fault.FaultKind.TheVariants.{Command, Depth, Operand, Undeclared, Fronts}
+use Rattle.answers.specs.declared.fault.Layer.TheVariants.{Statement, Expression, Behaviour}
 use Rattle.heads.specs.Checked.{fault}
 use Rattle.files.specs.Files.{check_file}
 

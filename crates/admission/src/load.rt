@@ -6,7 +6,7 @@ ghost use Rattle.admission.specs.Admission.{Admitted, Admits};
 ghost use Rattle.admission.specs.Read.{read, ReadAs, ReadsTrees};
 
 use files::file::{Summary, check_file};
-use heads::fault::LoadFault;
+use answers::fault::LoadFault;
 
 // What loading needs of an admitted file, or the first fault of any other.
 pub fn examine(file: &[u8]) -> Result<Summary, LoadFault>

@@ -1,8 +1,8 @@
 -- The check of a behaviour, one level at a time.
 use Rattle.std.proofs.Common.{◌≡◌, ℕ, zero, suc, ◌-◌, ◌<◌, List, drop, None, Err, refl, arith}
 use Rattle.commands.specs.Behaviours.{behaviour_command}
-use Rattle.heads.specs.declared.fault.FaultKind.TheVariants.{Command, Depth}
-use Rattle.heads.specs.declared.fault.Layer.TheVariants.{Behaviour}
+use Rattle.answers.specs.declared.fault.FaultKind.TheVariants.{Command, Depth}
+use Rattle.answers.specs.declared.fault.Layer.TheVariants.{Behaviour}
 use Rattle.heads.specs.Checked.{fault, known, ◌>>=◌}
 use Rattle.files.specs.Behaviours.{check_behaviour, behaviour_parts}
 

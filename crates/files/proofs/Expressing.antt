@@ -2,8 +2,8 @@
 use Rattle.std.proofs.Common.{◌≡◌, ℕ, zero, suc, ◌-◌, ◌<◌, List, drop, None, Err, refl, arith}
 use Rattle.values.specs.declared.kind.Kind.{Kind}
 use Rattle.commands.specs.Expressions.{expression_command}
-use Rattle.heads.specs.declared.fault.FaultKind.TheVariants.{Command, Depth}
-use Rattle.heads.specs.declared.fault.Layer.TheVariants.{Expression}
+use Rattle.answers.specs.declared.fault.FaultKind.TheVariants.{Command, Depth}
+use Rattle.answers.specs.declared.fault.Layer.TheVariants.{Expression}
 use Rattle.heads.specs.Checked.{fault, known, ◌>>=◌}
 use Rattle.files.specs.Expressions.{check_expression, expression_parts}
 

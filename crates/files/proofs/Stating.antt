@@ -3,8 +3,8 @@ use Rattle.std.proofs.Common.{◌≡◌, ℕ, zero, suc, ◌-◌, ◌<◌, List,
 use Rattle.values.specs.declared.kind.Kind.{Kind}
 use Rattle.commands.specs.Statements.{statement_command}
 use Rattle.commands.specs.Trees.{Declaration}
-use Rattle.heads.specs.declared.fault.FaultKind.TheVariants.{Command, Depth}
-use Rattle.heads.specs.declared.fault.Layer.TheVariants.{Statement}
+use Rattle.answers.specs.declared.fault.FaultKind.TheVariants.{Command, Depth}
+use Rattle.answers.specs.declared.fault.Layer.TheVariants.{Statement}
 use Rattle.heads.specs.Checked.{fault, known, ◌>>=◌}
 use Rattle.files.specs.Expressions.{check_expression}
 use Rattle.files.specs.Statements.{check_statement, statement_parts, few_fronts}

@@ -1,7 +1,7 @@
 -- The values of a SEND, one by one.
 use Rattle.std.proofs.Common.{◌≡◌, ℕ, suc, ◌+◌, ◌-◌, ◌<◌, List, [], ◌∷◌, ◌++◌, Ok, Err, sym, refl, ap, append_assoc, arith}
 use Rattle.values.specs.declared.kind.Kind.{Kind}
-use Rattle.heads.specs.declared.fault.LoadFault.{LoadFault}
+use Rattle.answers.specs.declared.fault.LoadFault.{LoadFault}
 use Rattle.heads.specs.Checked.{Checked, ◌>>=◌}
 use Rattle.files.specs.Expressions.{End}
 use Rattle.files.specs.Statements.{check_values}

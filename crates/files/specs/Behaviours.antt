@@ -3,8 +3,8 @@ use Rattle.std.specs.Prelude.{ℕ, zero, suc, ◌+◌, Bool, true, ◌&&◌, Lis
 use Rattle.commands.specs.declared.behaviour.BehaviourCommand.{BehaviourCommand}
 use Rattle.commands.specs.declared.behaviour.BehaviourCommand.TheVariants.{Proc, Par, Hide, Rename}
 use Rattle.commands.specs.Behaviours.{behaviour_command}
-use Rattle.heads.specs.declared.fault.FaultKind.TheVariants.{Command, Depth, Operand, Processes}
-use Rattle.heads.specs.declared.fault.Layer.TheVariants.{Behaviour}
+use Rattle.answers.specs.declared.fault.FaultKind.TheVariants.{Command, Depth, Operand, Processes}
+use Rattle.answers.specs.declared.fault.Layer.TheVariants.{Behaviour}
 use Rattle.heads.specs.Checked.{Checked, fault, ask, known, ◌>>=◌, ◌>>◌}
 
 -- the place behind a behaviour, and the number of PROCs up to there

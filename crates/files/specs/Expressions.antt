@@ -11,8 +11,8 @@ use Rattle.commands.specs.declared.expression.ExpressionCommand.TheVariants.{Lea
 use Rattle.commands.specs.declared.expression.Leaf.{Leaf}
 use Rattle.commands.specs.declared.expression.Leaf.TheVariants.{Int, Bool as BoolL, Iunk, Var}
 use Rattle.commands.specs.Expressions.{expression_command, leaf_size}
-use Rattle.heads.specs.declared.fault.FaultKind.TheVariants.{Command, Depth, Operand, PartKind}
-use Rattle.heads.specs.declared.fault.Layer.TheVariants.{Expression}
+use Rattle.answers.specs.declared.fault.FaultKind.TheVariants.{Command, Depth, Operand, PartKind}
+use Rattle.answers.specs.declared.fault.Layer.TheVariants.{Expression}
 use Rattle.heads.specs.Checked.{Checked, fault, ask, known, ◌>>=◌, ◌>>◌}
 
 -- the place behind an expression, and its kind

@@ -1,7 +1,7 @@
 -- The check of a whole file: the first fault in file order, or what loading needs.
 use Rattle.std.specs.Prelude.{ℕ, zero, suc, ◌+◌, ◌&&◌, List, length, take, Ok, ◌==◌, nat_le}
-use Rattle.heads.specs.declared.fault.FaultKind.TheVariants.{Length, FirstBytes, ClassHead, Command}
-use Rattle.heads.specs.declared.fault.Layer.TheVariants.{File as FileL, ClassHead as ClassHeadL, Statement as StatementL, Behaviour as BehaviourL}
+use Rattle.answers.specs.declared.fault.FaultKind.TheVariants.{Length, FirstBytes, ClassHead, Command}
+use Rattle.answers.specs.declared.fault.Layer.TheVariants.{File as FileL, ClassHead as ClassHeadL, Statement as StatementL, Behaviour as BehaviourL}
 use Rattle.heads.specs.Checked.{Checked, ask, ◌>>=◌, ◌>>◌}
 use Rattle.files.specs.Behaviours.{check_behaviour}
 use Rattle.heads.specs.Heads.{byte, word_at, check_head, class_kinds, class_declarations}

@@ -3,7 +3,7 @@ use Rattle.std.specs.Prelude.{ℕ, List, Ok, Err, Result}
 use Rattle.values.specs.declared.few.Few.{Few}
 use Rattle.values.specs.declared.kind.Kind.{Kind}
 use Rattle.values.specs.Few as few
-use Rattle.heads.specs.declared.fault.LoadFault.{LoadFault}
+use Rattle.answers.specs.declared.fault.LoadFault.{LoadFault}
 use Rattle.heads.specs.Checked.{Checked}
 
 abbrev pub kinds_list : Few Kind 4 → List Kind

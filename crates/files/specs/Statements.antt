@@ -8,8 +8,8 @@ use Rattle.commands.specs.declared.statement.StatementCommand.{StatementCommand}
 use Rattle.commands.specs.declared.statement.StatementCommand.TheVariants.{Skip, Set, Send, Recv, Seq, Sel, Guard, If, Do}
 use Rattle.commands.specs.Statements.{statement_command}
 use Rattle.commands.specs.Trees.{Declaration}
-use Rattle.heads.specs.declared.fault.FaultKind.TheVariants.{Command, Depth, Operand, PartKind, Undeclared, Fronts}
-use Rattle.heads.specs.declared.fault.Layer.TheVariants.{Expression, Statement}
+use Rattle.answers.specs.declared.fault.FaultKind.TheVariants.{Command, Depth, Operand, PartKind, Undeclared, Fronts}
+use Rattle.answers.specs.declared.fault.Layer.TheVariants.{Expression, Statement}
 use Rattle.heads.specs.Checked.{Checked, fault, ask, known, ◌>>=◌, ◌>>◌}
 use Rattle.heads.specs.Exchanges.{exchange, declared}
 use Rattle.files.specs.Expressions.{End, check_expression}

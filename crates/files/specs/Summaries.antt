@@ -1,6 +1,6 @@
 -- What the check of a file hands on.
 use Rattle.std.specs.Prelude.{Ok, Err, Result}
-use Rattle.heads.specs.declared.fault.LoadFault.{LoadFault}
+use Rattle.answers.specs.declared.fault.LoadFault.{LoadFault}
 use Rattle.files.specs.declared.file.Summary.{Summary}
 use Rattle.heads.specs.Checked.{Checked}
 use Rattle.files.specs.Files as files

@@ -1,14 +1,14 @@
 // The check of behaviours. One function alone takes both the file and the number of classes, so no struct holds them.
 ghost use Rattle.std.specs.Prelude.{◌≡◌};
 ghost use Rattle.heads.specs.Checked.{ask as asked};
-ghost use Rattle.heads.specs.declared.fault.FaultKind.TheVariants.{Operand, Processes};
-ghost use Rattle.heads.specs.declared.fault.Layer.TheVariants.{Behaviour};
+ghost use Rattle.answers.specs.declared.fault.FaultKind.TheVariants.{Operand, Processes};
+ghost use Rattle.answers.specs.declared.fault.Layer.TheVariants.{Behaviour};
 ghost use Rattle.files.specs.Behaviours.{check_behaviour, operands_fit, few_processes};
 
 use commands::behaviour::BehaviourCommand;
 use commands::command::read;
 use heads::checked::{ask, fault};
-use heads::fault::{FaultKind, Layer, LoadFault};
+use answers::fault::{FaultKind, Layer, LoadFault};
 
 // The most processes of a model.
 const PROCESSES: u8 = 8;

@@ -9,7 +9,7 @@ use crate::body::Body;
 use crate::operands::{exchange_fits, receive_fits};
 use heads::checked::{ask, fault};
 use heads::declarations::Exchange;
-use heads::fault::{FaultKind, Layer, LoadFault};
+use answers::fault::{FaultKind, Layer, LoadFault};
 use values::few::Few;
 use values::kind::Kind;
 

@@ -8,7 +8,7 @@ use crate::body::Body;
 use commands::command::read;
 use commands::expression::{ExpressionCommand, Leaf};
 use heads::checked::{ask, fault};
-use heads::fault::{FaultKind, Layer, LoadFault};
+use answers::fault::{FaultKind, Layer, LoadFault};
 use values::kind::Kind;
 use values::op::Op;
 

@@ -9,7 +9,7 @@ use crate::body::Body;
 use heads::bytes::word_at;
 use heads::checked::{ask, fault};
 use heads::class::scope_at;
-use heads::fault::{FaultKind, Layer, LoadFault};
+use answers::fault::{FaultKind, Layer, LoadFault};
 use heads::head::{check_head, inside};
 use std::fmt;
 

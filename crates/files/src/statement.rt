@@ -9,7 +9,7 @@ use crate::body::Body;
 use commands::command::read;
 use commands::statement::StatementCommand;
 use heads::checked::{ask, fault};
-use heads::fault::{FaultKind, Layer, LoadFault};
+use answers::fault::{FaultKind, Layer, LoadFault};
 use values::kind::Kind;
 
 // The most fronts that a statement can have.

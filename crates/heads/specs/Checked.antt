@@ -1,8 +1,8 @@
 -- An answer or the first fault.
 use Rattle.std.specs.Prelude.{ℕ, zero, suc, ◌+◌, Bool, true, false, Some, None, Ok, Err, Option, Result}
-use Rattle.heads.specs.declared.fault.FaultKind.{FaultKind}
-use Rattle.heads.specs.declared.fault.Layer.{Layer}
-use Rattle.heads.specs.declared.fault.LoadFault.{LoadFault}
+use Rattle.answers.specs.declared.fault.FaultKind.{FaultKind}
+use Rattle.answers.specs.declared.fault.Layer.{Layer}
+use Rattle.answers.specs.declared.fault.LoadFault.{LoadFault}
 
 abbrev pub Checked : Type 0 → Type 0
 Checked A = Result A LoadFault

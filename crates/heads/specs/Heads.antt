@@ -9,8 +9,8 @@ use Rattle.values.specs.Rows.{valid, value_of_row}
 use Rattle.values.specs.Values.{Val}
 use Rattle.commands.specs.Numbers.{two_bytes, four_bytes}
 use Rattle.commands.specs.Trees.{Declaration}
-use Rattle.heads.specs.declared.fault.FaultKind.TheVariants.{ClassHead}
-use Rattle.heads.specs.declared.fault.Layer.TheVariants.{ClassHead as ClassHeadL}
+use Rattle.answers.specs.declared.fault.FaultKind.TheVariants.{ClassHead}
+use Rattle.answers.specs.declared.fault.Layer.TheVariants.{ClassHead as ClassHeadL}
 use Rattle.heads.specs.Checked.{Checked, ask, repeated, ◌>>=◌, ◌>>◌}
 
 abbrev pub byte : List ℕ → ℕ → ℕ

@@ -2,7 +2,7 @@
 ghost use Rattle.std.specs.Prelude.{◌≡◌};
 ghost use Rattle.heads.specs.Checked.{fault as fault_of, ask as asked};
 
-use crate::fault::{FaultKind, Layer, LoadFault};
+use answers::fault::{FaultKind, Layer, LoadFault};
 
 // Written out as a struct, a fault would take five lines at each place that names one.
 pub fn fault(kind: FaultKind, place: usize, layer: Layer) -> LoadFault

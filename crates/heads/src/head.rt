@@ -1,13 +1,13 @@
 // The check of a class's head, field by field.
 ghost use Rattle.std.specs.Prelude.{◌≡◌, ℕ, ◌+◌, ◌*◌, ◌≤◌, List, length, IfOk, OnOk, nat_le};
 ghost use Rattle.heads.specs.Checked.{Checked, ask as asked, repeated};
-ghost use Rattle.heads.specs.declared.fault.FaultKind.TheVariants.{ClassHead};
-ghost use Rattle.heads.specs.declared.fault.Layer.TheVariants.{ClassHead as ClassHeadL};
+ghost use Rattle.answers.specs.declared.fault.FaultKind.TheVariants.{ClassHead};
+ghost use Rattle.answers.specs.declared.fault.Layer.TheVariants.{ClassHead as ClassHeadL};
 ghost use Rattle.heads.specs.Heads.{byte, field as field_of, is_kind, kind_fits, check_variable, check_kind, check_exchange, check_declaration, check_head, Headed};
 
 use crate::bytes::{byte_at, row_at};
 use crate::checked::ask;
-use crate::fault::{FaultKind, Layer, LoadFault};
+use answers::fault::{FaultKind, Layer, LoadFault};
 
 // Whether so many bytes from a place on lie within the class.
 pub fn inside(file: &[u8], at: usize, size: usize) -> Result<(), LoadFault>

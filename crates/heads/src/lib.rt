@@ -5,6 +5,6 @@ pub mod bytes;
 pub mod checked;
 pub mod class;
 pub mod declarations;
-pub mod fault;
+
 pub mod head;
 pub mod variables;

@@ -2,7 +2,7 @@
 use Rattle.std.specs.Prelude.{ℕ, List, ◌++◌, length, Ok, Err, codes, decimal}
 use Rattle.commands.specs.Trees.{File}
 use Rattle.heads.specs.Checked.{Checked}
-use Rattle.heads.specs.Answers.{fault_text}
+use Rattle.answers.specs.Texts.{fault_text}
 use Rattle.admission.specs.Conditions.{processes}
 
 -- of an admitted file how many classes and processes it has, of any other the first fault

@@ -5,17 +5,17 @@ use Rattle.values.specs.Values.{Val}
 use Rattle.records.specs.declared.record.Record.{Record}
 use Rattle.records.specs.declared.step.Step.{Step}
 use Rattle.records.specs.Records.{record_of}
-use Rattle.steps.specs.declared.refusal.StepRefusal.{StepRefusal}
+use Rattle.answers.specs.declared.refusal.TakeRefusal.{TakeRefusal}
 use Rattle.steps.specs.Models.{Model}
 use Rattle.steps.specs.Taking.{refusal, exchanged, after_step}
 
 -- the refusal of a check, if any
-abbrev pub refused : {A : Type 0} → Result A StepRefusal → Option StepRefusal
+abbrev pub refused : {A : Type 0} → Result A TakeRefusal → Option TakeRefusal
 refused (Ok a) = None
 refused (Err x) = Some x
 
 -- a step that is taken leaves the model after it, and its record has the values that it exchanged; a refused one leaves the model
-abbrev pub Taken : Model → Model → Step → List Val → Result Record StepRefusal → Type 0
+abbrev pub Taken : Model → Model → Step → List Val → Result Record TakeRefusal → Type 0
 Taken before after s given (Ok r) =
     (refusal before s given ≡ None)
     × (record_of s (map row_of (exchanged before s given)) ≡ Some r)

@@ -1,7 +1,7 @@
 -- The model that the memory stands for.
 use Rattle.std.specs.Prelude.{ℕ, List, [], take, Ok, Err, Result}
 use Rattle.commands.specs.Trees.{process}
-use Rattle.heads.specs.declared.fault.LoadFault.{LoadFault}
+use Rattle.answers.specs.declared.fault.LoadFault.{LoadFault}
 use Rattle.heads.specs.Checked.{Checked, ◌>>=◌}
 use Rattle.files.specs.Files.{levels}
 use Rattle.parts.specs.Parts.{behaviour_in}

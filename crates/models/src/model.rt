@@ -11,8 +11,9 @@ mod gathered;
 mod making;
 mod taking;
 
-// Where there are processes, the file is admitted, the arrivals are its behaviour's, and every process belongs to its class.
-#[derive(Clone, Copy)]
+/// A model in fixed memory. Where there are processes, the file is admitted, the arrivals are its behaviour's, and every
+/// process belongs to its class.
+#[derive(Drop)]
 pub struct Model {
     // room for the longest file, and how much of it this one fills: the engine takes nothing from the heap
     file: [u8; 4096],

@@ -3,7 +3,7 @@ use Rattle.std.specs.Prelude.{ℕ, List, ◌++◌, length, Ok, Err, codes, decim
 use Rattle.std.specs.List.{flat_map}
 use Rattle.commands.specs.Trees.{File}
 use Rattle.heads.specs.Checked.{Checked}
-use Rattle.heads.specs.Answers.{fault_text}
+use Rattle.answers.specs.Texts.{fault_text}
 use Rattle.records.specs.declared.step.Step.{Step}
 use Rattle.records.specs.Steps.{step_text}
 use Rattle.steps.specs.Models.{start}

@@ -5,7 +5,7 @@ ghost use Rattle.records.specs.Lists.{items, room_of};
 ghost use Rattle.starts.specs.Answers.{listing_text, steps_answer};
 ghost use Rattle.starts.specs.Firsts.{first_steps};
 
-use heads::fault::LoadFault;
+use answers::fault::LoadFault;
 use inspect::check::answer_bytes;
 use models::model::{MOST_STEPS, Model};
 use records::list::RecordList;

@@ -3,7 +3,7 @@ use Rattle.std.proofs.Common.{◌≡◌, ℕ, Bool, true, false, cond, eqb, List
 use Rattle.std.proofs.lemmas.Bool.{and_parts, and_from, eqb-true, eq-eqb, or_cases, or_left, or_right}
 use Rattle.records.specs.declared.step.Step.{Step}
 use Rattle.values.specs.Values.{Val}
-use Rattle.steps.specs.declared.refusal.StepRefusal.TheVariants.{NotListed, Values}
+use Rattle.answers.specs.declared.refusal.TakeRefusal.TheVariants.{NotListed, Values}
 use Rattle.steps.specs.Models.{Model}
 use Rattle.steps.specs.Steps.{offers, steps}
 use Rattle.steps.specs.Taking.{same_step, is_in, fits, refusal}

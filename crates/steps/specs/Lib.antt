@@ -1,6 +1,5 @@
 pub mod Models
 pub mod Steps
-pub mod Refusals
 pub mod Taking
 pub mod Kept
 pub mod Declaring

@@ -7,8 +7,8 @@ use Rattle.processes.specs.Classes.{after}
 use Rattle.processes.specs.Fronts.{Action, internal, sends, receives, Front, process_fronts}
 use Rattle.processes.specs.Found.{front_numbered}
 use Rattle.records.specs.declared.step.Step.{Step}
-use Rattle.steps.specs.declared.refusal.StepRefusal.{StepRefusal}
-use Rattle.steps.specs.declared.refusal.StepRefusal.TheVariants.{NotListed, Values}
+use Rattle.answers.specs.declared.refusal.TakeRefusal.{TakeRefusal}
+use Rattle.answers.specs.declared.refusal.TakeRefusal.TheVariants.{NotListed, Values}
 use Rattle.steps.specs.Models.{Process, Model}
 use Rattle.steps.specs.Steps.{steps, target_kinds}
 
@@ -85,5 +85,5 @@ is_in s [] = false
 is_in s (x ∷ xs) = same_step s x || is_in s xs
 
 -- why a step is not taken: it is not listed now, or the values do not fit
-abbrev pub refusal : Model → Step → List Val → Option StepRefusal
+abbrev pub refusal : Model → Step → List Val → Option TakeRefusal
 refusal m s given = cond (is_in s (steps m)) (cond (fits m s given) None (Some Values)) (Some NotListed)

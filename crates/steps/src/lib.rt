@@ -2,4 +2,3 @@
 #![tactic(auto)]
 
 pub mod facts;
-pub mod refusal;

@@ -12,7 +12,7 @@ use super::Model;
 use processes::front::Sent;
 use records::record::Record;
 use records::step::{INTERNAL, MEETING, OUTSIDE_RECEIVE, Step};
-use steps::refusal::StepRefusal;
+use answers::refusal::TakeRefusal;
 use tables::exchanged::{normal, sent_by, takes};
 use values::row::Row;
 
@@ -32,15 +32,15 @@ impl Model {
     }
 
     // Whether a step is taken with these values; else why not.
-    pub fn check(&self, step: &Step, values: &[Row]) -> Result<(), StepRefusal>
+    pub fn check(&self, step: &Step, values: &[Row]) -> Result<(), TakeRefusal>
         ensures exact { refused result ≡ refusal (model_of self.now) step.now (values_of values.now) }
         ensures short { result ≡ Ok tt → length values.now ≤ 4 }
     {
         if !self.lists(step) {
-            return Err(StepRefusal::NotListed);
+            return Err(TakeRefusal::NotListed);
         }
         if !self.fits(step, values) {
-            return Err(StepRefusal::Values);
+            return Err(TakeRefusal::Values);
         }
         Ok(())
     }
@@ -84,7 +84,7 @@ impl Model {
     }
 
     // Takes a step with the values that an outside receive brings, or says why not; a refused step alters nothing.
-    pub fn advance(&mut self, step: &Step, values: &[Row]) -> Result<Record, StepRefusal>
+    pub fn advance(&mut self, step: &Step, values: &[Row]) -> Result<Record, TakeRefusal>
         ensures { Taken (model_of self.old) (model_of self.new) step.now (values_of values.now) result }
     {
         self.check(step, values)?;

@@ -10,7 +10,7 @@ use listing::fill::put_steps;
 use listing::offer::{Offer, Role};
 use records::list::RecordList;
 use records::step::Step;
-use steps::refusal::NoRoom;
+use answers::refusal::NoRoom;
 use tables::offers::put_offers;
 
 // The most steps that a model can have.

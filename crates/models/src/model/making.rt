@@ -9,7 +9,7 @@ use crate::behaviour::process_class;
 use admission::load::examine;
 use arrivals::table::Arrivals;
 use classes::fresh::Fresh;
-use heads::fault::LoadFault;
+use answers::fault::LoadFault;
 use processes::left::Left;
 use records::record::UNKNOWN;
 use tables::table::{Entry, Table};

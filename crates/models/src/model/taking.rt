@@ -13,7 +13,7 @@ use super::gathered::MOST_STEPS;
 use processes::front::Front;
 use records::list::RecordList;
 use records::step::Step;
-use steps::refusal::StepRefusal;
+use answers::refusal::TakeRefusal;
 use tables::offers::front_of;
 use values::row::Row;
 

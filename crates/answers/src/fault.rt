@@ -1,32 +1,32 @@
 // The fault of a file that is refused.
 ghost use Rattle.std.specs.Prelude.{◌≡◌, Some};
-ghost use Rattle.heads.specs.Faults.{fault_number, layer_number};
-ghost use Rattle.heads.specs.Answers.{fault_text};
+ghost use Rattle.answers.specs.Numbers.{fault_number, layer_number};
+ghost use Rattle.answers.specs.Texts.{fault_text};
 
 use std::error::Error;
 use std::fmt;
 
 #[derive(Clone, Copy, PartialEq, Eq, Debug)]
 pub enum FaultKind {
-    // the length is outside 4 to 4,096
+    /// The length is outside 4 to 4,096.
     Length,
-    // a wrong byte among the first four
+    /// A wrong byte among the first four.
     FirstBytes,
-    // a class or its head overruns, or a field of the head is out of bounds
+    /// A class or its head overruns, or a field of the head is out of bounds.
     ClassHead,
-    // a command unknown there, cut short, or with a wrong place; or bytes left over
+    /// A command unknown there, cut short, or with a wrong place; or bytes left over.
     Command,
-    // nested too deep
+    /// Nested too deep.
     Depth,
-    // an operand out of bounds
+    /// An operand out of bounds.
     Operand,
-    // a part of the wrong kind
+    /// A part of the wrong kind.
     PartKind,
-    // a SEND or RECV that its class does not declare
+    /// A SEND or RECV that its class does not declare.
     Undeclared,
-    // a statement with more than eight fronts
+    /// A statement with more than eight fronts.
     Fronts,
-    // a ninth PROC
+    /// A ninth PROC.
     Processes,
 }
 
