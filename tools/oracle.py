@@ -2,8 +2,11 @@
 """The rules of docs/ once more, in Python, independent of the engine.
 
 Values, the check of a model file, fronts, waiting, arrivals, steps, take, run,
-choosers and the shell. `python3 tools/oracle.py < INPUT` prints what the shell
-must answer to INPUT; the stored answers of the program come from here.
+choosers, the shell with its session on one engine, and trials. The stored answers
+of both programs come from here:
+
+    python3 tools/oracle.py < INPUT           what the shell must answer to INPUT
+    python3 tools/oracle.py trials < INPUT    what the program `trials` must print
 """
 import re, sys
 import rota_oracle
@@ -76,8 +79,18 @@ WANT = {0: "a value", I: "an Integer", B: "a Boolean"}
 
 class Wrong(Exception): pass
 
+def words_of(line):
+    """the words of a line, parted by ASCII white space"""
+    return re.findall(r"[^ \t\n\f\r]+", line)
+
+def value_of_word(w):
+    """the value that a word writes; None where it writes none"""
+    if re.fullmatch(r"[+-]?[0-9]+", w):
+        return val_int(int(w)) if LO <= int(w) <= HI else None
+    return {"?i": IU, "?b": BU, "true": val_bool(True), "false": val_bool(False)}.get(w)
+
 def shell_eval(line):
-    words = line.split()
+    words = words_of(line)
     trace = []
     pos = [0]
     def fail(expected, at):
@@ -97,7 +110,6 @@ def shell_eval(line):
         if depth > 32: fail("at most 32 levels", at)
         if want and kind != want: fail(WANT[want], at)
         pos[0] += 1
-        if num: return val_int(int(w))
         if w in OPS:
             args = []
             for k in OPS[w][0]:
@@ -105,7 +117,7 @@ def shell_eval(line):
             v = op(w, *args)
             trace.append("%s = %s" % (" ".join([w] + [show(a) for a in args]), show(v)))
             return v
-        return {"?i": IU, "?b": BU, "true": val_bool(True), "false": val_bool(False)}[w]
+        return value_of_word(w)
     try:
         v = part(0, 1)
         if pos[0] < len(words): fail("the end of the line", pos[0])
@@ -539,18 +551,21 @@ class Hold:
 
 # ---------------------------------------------------------------- the shell
 
-HELP = """\
-help              lists the commands
-eval EXPRESSION   works out an expression in prefix form, as eval ADD 1 MUL 2 3
-                  operations: ADD SUB MUL DIV LESS SAME AND OR NOT
-                  values: numbers, true, false, ?i and ?b for unknown ones
-check HEX         says whether a model file is admitted, or its first fault
-show HEX          prints an admitted file as indented text, each command with its place
-fronts HEX        says what a fresh process of each class of an admitted file can do first
-steps HEX         lists the steps that an admitted file permits at its start, seven numbers each
-rota CHOOSER      draws up who is served at each turn; lines of closed steps follow,
-                  seven numbers each, a blank line ends a turn, and end the rota
-                  choosers: script N.., rotation, seniority, hold K rotation, hold K seniority"""
+# What `help` prints: word for word the lines of HELP in the program. Replace them here when they change there.
+HELP = [
+    "help              lists the commands",
+    "eval EXPRESSION   works out an expression in prefix form, as eval ADD 1 MUL 2 3",
+    "                  operations: ADD SUB MUL DIV LESS SAME AND OR NOT",
+    "                  values: numbers, true, false, ?i and ?b for unknown ones",
+    "check HEX         says whether a model file is admitted, or its first fault",
+    "show HEX          prints an admitted file as indented text, each command with its place",
+    "fronts HEX        says what a fresh process of each class of an admitted file can do first",
+    "steps HEX         lists the steps that an admitted file permits at its start, seven numbers each",
+    "rota CHOOSER      draws up who is served at each turn; lines of closed steps follow,",
+    "                  seven numbers each, a blank line ends a turn, and end the rota",
+    "                  choosers: script N.., rotation, seniority, hold K rotation, hold K seniority",
+]
+# (end of HELP)
 
 def hex_words(words):
     for i, w in enumerate(words):
@@ -638,20 +653,169 @@ def shell_steps(words):
         return ["refused %d place %d layer %d" % e.t]
     return ["listed %d" % len(found)] + [" ".join(str(n) for n in s) for s in found]
 
+# ---------------------------------------------------------------- the session of the shell
+
+def number(w, top):
+    """the number that a word writes, at most top; None where it writes none"""
+    return int(w) if re.fullmatch("[0-9]+", w) and int(w) <= top else None
+
+def numbers(words, *tops):
+    """the numbers that the words write, no more than there are bounds; raises Wrong otherwise"""
+    found = [number(w, top) for w, top in zip(words, tops)]
+    if len(words) > len(tops) or None in found: raise Wrong
+    return found
+
+def chooser_of(words):
+    """the chooser that the words name; ValueError with the fault text of `rota` otherwise"""
+    rota_oracle.chooser(words)
+    if words[0] == "script": return Script(int(w) for w in words[1:])
+    if words[0] == "hold": return Hold(int(words[1]), chooser_of(words[2:]))
+    return Rotation() if words[0] == "rotation" else Seniority()
+
+def texts(*items):
+    return " ".join(str(x) for x in items)
+
+def refusal_text(t):
+    return "refused %d place %d layer %d" % t
+
+def record_line(r):
+    st, count, vs = r
+    return texts(*st, count, *[show(v) for v in vs[:count]])
+
+def journal_lines(journal):
+    return ["journal %d" % len(journal.items)] + [record_line(r) for r in journal.items]
+
+def state_lines(m):
+    out = ["processes %d" % len(m.procs)]
+    for i, p in enumerate(m.procs):
+        line = "process %d: %s;" % (i, texts(*[s.place for s in p.left]) if p.left else "ended")
+        out.append(texts(line, *[show(v) for v in p.vars]))
+    return out
+
+def stop_text(t):
+    return "ran %d stop %d" % t
+
+class Session:
+    """the engine behind the shell's session commands, with its journal and the chooser that runs ask"""
+    def __init__(self):
+        self.engine, self.journal, self.chooser = Engine(), Lst(1000), Hold(3, Seniority())
+
+    def load(self, words):
+        try: data = hex_words(words)
+        except Wrong as e: return [str(e)]
+        answer = self.engine.load(data)
+        return ["loaded" if answer == "ok" else refusal_text(answer)]
+
+    def list(self, words):
+        room = numbers(words, 65535)
+        table = Lst(room[0] if room else 1088)
+        if self.engine.list(table) != "ok": return ["refused 12"]
+        return ["listed %d" % len(table.items)] + [texts(*s) for s in table.items]
+
+    def take(self, words):
+        step, values = numbers(words[:7], *[255] * 7), [value_of_word(w) for w in words[7:]]
+        if len(step) < 7 or None in values: raise Wrong
+        answer = self.engine.take(step, [row_of(v) for v in values], self.journal)
+        return ["took " + record_line(self.journal.items[-1]) if answer == "ok" else "refused %d" % answer]
+
+    def run(self, words):
+        given = numbers(words, 4294967295, 65535)
+        if not given: raise Wrong
+        answer = self.engine.run(given[0], self.chooser, Lst((given + [1088])[1]), self.journal)
+        return ["refused 12" if answer == 12 else stop_text(answer)]
+
+    def choose(self, words):
+        try: self.chooser = chooser_of(words)
+        except ValueError as e: return ["wrong: %s" % e]
+        return [texts("chooser", *words)]
+
+    def journals(self, words):
+        room = numbers(words, 65535)
+        if not room: return journal_lines(self.journal)
+        self.journal = Lst(room[0])
+        return ["journal of room %d" % room[0]]
+
+    def state(self, words):
+        numbers(words)
+        return state_lines(self.engine.model)
+
+SESSION = {
+    "load": (Session.load, ""),
+    "list": (Session.list, "list [ROOM], a room from 0 to 65535"),
+    "take": (Session.take, "take and seven numbers from 0 to 255, then values"),
+    "run": (Session.run, "run BUDGET [ROOM], a budget from 0 to 4294967295 and a room from 0 to 65535"),
+    "chooser": (Session.choose, ""),
+    "journal": (Session.journals, "journal [ROOM], a room from 0 to 65535"),
+    "state": (Session.state, "state and nothing else"),
+}
+
+def shell_session(session, words):
+    call, form = SESSION[words[0]]
+    try: return call(session, words[1:])
+    except Wrong: return ["wrong: expected " + form]
+
+# ---------------------------------------------------------------- the shell's lines
+
 def shell(lines):
-    lines = iter(lines)
+    lines, session = iter(lines), Session()
     for line in lines:
-        words = line.split()
+        words = words_of(line)
         if not words or words[0].startswith("#"): continue
         if words[0] == "help":
-            print(HELP if len(words) == 1 else "wrong: word 1: expected the end of the line, found '%s'" % words[1])
+            print("\n".join(HELP) if len(words) == 1 else "wrong: word 1: expected the end of the line, found '%s'" % words[1])
         elif words[0] == "eval": print("\n".join(shell_eval(" ".join(words[1:]))))
         elif words[0] == "check": print(shell_check(words[1:]))
         elif words[0] == "show": print("\n".join(shell_show(words[1:])))
         elif words[0] == "fronts": print("\n".join(shell_fronts(words[1:])))
         elif words[0] == "steps": print("\n".join(shell_steps(words[1:])))
         elif words[0] == "rota": rota_oracle.follow(words[1:], lines)
+        elif words[0] in SESSION: print("\n".join(shell_session(session, words)))
         else: print("wrong: unknown command '%s'; help lists the commands" % words[0])
 
+# ---------------------------------------------------------------- trials
+
+class Trial:
+    """the calls of one trial session, in order, on a newly made engine; the lists they share; their answers"""
+    def __init__(self, chooser, table, journal, answers):
+        self.engine, self.chooser = Engine(), chooser_of(chooser)
+        self.table, self.journal, self.answers = Lst(table), Lst(journal), Lst(answers)
+        self.open = False                                 # whether the table's contents are open, after a run
+
+    def call(self, words):
+        name, rest = words[0], words[1:]
+        if name == "load":
+            answer = self.engine.load(unhex("".join(rest)))
+            text = "loaded" if answer == "ok" else refusal_text(answer)
+        elif name == "list":
+            answer = self.engine.list(self.table)
+            if answer == "ok": self.open = False
+            text = "listed" if answer == "ok" else "refused %d" % answer
+        elif name == "take":
+            rows = [row_of(value_of_word(w)) for w in rest[7:]]
+            answer = self.engine.take(tuple(int(w) for w in rest[:7]), rows, self.journal)
+            text = "took" if answer == "ok" else "refused %d" % answer
+        else:
+            chooser = self.chooser if name == "run" else chooser_of(["script"] + rest[1:])
+            answer = self.engine.run(int(rest[0]), chooser, self.table, self.journal)
+            if answer != 12: self.open = True
+            text = "refused 12" if answer == 12 else stop_text(answer)
+        if len(self.answers.items) < self.answers.room: self.answers.items.append(text)
+        return text
+
+    def outcome(self):
+        """what the program prints at the session's end"""
+        table = ["table open"] if self.open else ["table %d" % len(self.table.items)] + [texts(*s) for s in self.table.items]
+        return self.answers.items + table + journal_lines(self.journal) + state_lines(self.engine.model)
+
+def trials(lines):
+    for line in lines:
+        words = line.split()
+        if words[0] == "session": chooser = words[1:]
+        elif words[0] == "rooms": trial = Trial(chooser, *[int(w) for w in words[1:]])
+        elif words == ["table", "open"]: assert trial.open
+        elif words == ["end"]: print("\n".join(trial.outcome()))
+        else: trial.call(words)
+
 if __name__ == "__main__":
-    shell(sys.stdin)
+    sys.stdin.reconfigure(newline="\n")
+    (trials if sys.argv[1:] == ["trials"] else shell)(sys.stdin)
