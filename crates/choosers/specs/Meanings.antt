@@ -1,6 +1,7 @@
 -- What a chooser means: how it will answer.
-use Rattle.std.specs.Prelude.{ℕ, ◌<◌, cond, List, [], ◌∷◌, length, Some, None, Option, ◌==◌}
+use Rattle.std.specs.Prelude.{ℕ, ◌<◌, cond, List, [], ◌∷◌, length, Ok, Err, Result, ◌==◌}
 use Rattle.records.specs.declared.step.Step.{Step}
+use Rattle.choosers.specs.declared.answer.Declined.{Declined}
 
 -- what a chooser is asked about: the closed steps
 abbrev pub Question : Type 0
@@ -14,14 +15,21 @@ Later X = List Question → X
 abbrev pub after : {X : Type 0} → Later X → Question → Later X
 after f q = λ past. f (q ∷ past)
 
--- how each question is answered once some have been: by a pick, or not at all
+-- what a chooser answers: a pick, or that it declines
+abbrev pub Answer : Type 0
+Answer = Result ℕ Declined
+
+abbrev pub declines : Answer
+declines = Err (record {})
+
+-- how each question is answered once some have been
 abbrev pub Meaning : Type 0
-Meaning = Later (Question → Option ℕ)
+Meaning = Later (Question → Answer)
 
 -- a pick is a number below the count
-abbrev pub BelowCount : Option ℕ → Question → Type 0
-BelowCount (Some n) q = n < length q
-BelowCount None q = Unit {0}
+abbrev pub BelowCount : Answer → Question → Type 0
+BelowCount (Ok n) q = n < length q
+BelowCount (Err d) q = Unit {0}
 
 -- x where there is no step to pick, else y
 abbrev pub when_empty : {X : Type 0} → Question → X → X → X
@@ -31,8 +39,8 @@ when_empty q x y = cond (length q == 0) x y
 abbrev pub Picker : Type 0
 Picker = Later (Question → ℕ)
 
-abbrev pub pick_of : ℕ → Question → Option ℕ
-pick_of n q = when_empty q None (Some n)
+abbrev pub pick_of : ℕ → Question → Answer
+pick_of n q = when_empty q declines (Ok n)
 
 abbrev pub picking : Picker → Meaning
 picking f = λ past q. pick_of (f past q) q

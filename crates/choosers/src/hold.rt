@@ -8,6 +8,7 @@ use crate::chooser::FairChooser;
 use crate::find::first_passing;
 use records::step::Step;
 
+/// Each pick of the chooser below is followed by at most `k` internal steps of the process picked.
 #[derive(Drop)]
 pub struct Hold<F> {
     below: F,
@@ -18,7 +19,7 @@ pub struct Hold<F> {
 }
 
 impl<F: FairChooser> Hold<F> {
-    // Nothing is left at first, so that the kept process does not matter.
+    /// Nothing is left at first, so that the kept process does not matter.
     pub fn new(below: F, k: u8) -> Self
         ensures below { result.below ≡ below }
         ensures k { result.k ≡ k }

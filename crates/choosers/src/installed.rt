@@ -8,7 +8,7 @@ use crate::chooser::serves_everyone;
 use crate::hold::Hold;
 use crate::seniority::Seniority;
 
-// Hold with K 3 over Seniority: 32 picks serve everyone.
+/// Hold with K 3 over Seniority: 32 picks serve everyone.
 pub fn installed() -> Hold<Seniority>
     ensures k { result.k ≡ 3 }
     ensures left { result.left ≡ 0 }

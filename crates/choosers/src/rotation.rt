@@ -6,6 +6,7 @@ ghost use Rattle.choosers.specs.RotationsLemmas.{rotation_fair};
 use crate::chooser::FairChooser;
 use records::step::{MEETING, Step};
 
+/// It serves the nearest process at or after a cursor, and moves the cursor behind it.
 #[derive(Drop)]
 pub struct Rotation {
     cursor: u8,
@@ -20,6 +21,7 @@ struct Near {
 }
 
 impl Rotation {
+    /// With the cursor at process 0.
     pub fn new() -> Rotation
         ensures { result.cursor ≡ 0 }
     {

@@ -7,6 +7,7 @@ use crate::chooser::FairChooser;
 use crate::find::first_passing;
 use records::step::{MEETING, Step};
 
+/// It keeps the process numbers in an order: the longer one has been in no picked step, the further in front.
 #[derive(Drop)]
 pub struct Seniority {
     order: [u8; 8],
@@ -14,6 +15,7 @@ pub struct Seniority {
 }
 
 impl Seniority {
+    /// With the processes in order of their numbers.
     pub fn new() -> Seniority
         ensures { result.order ≡ by_number }
     {

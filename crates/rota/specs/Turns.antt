@@ -1,8 +1,8 @@
 -- The turns of a rota.
-use Rattle.std.specs.Prelude.{ℕ, ◌+◌, ◌-◌, ◌^◌, min, cond, not, ◌&&◌, List, [], ◌∷◌, ◌++◌, Some, None, codes, decimal, Option, slice_index, slice_index_or}
+use Rattle.std.specs.Prelude.{ℕ, ◌+◌, ◌-◌, ◌^◌, min, cond, not, ◌&&◌, List, [], ◌∷◌, ◌++◌, Some, None, codes, decimal, Ok, Err, Option, slice_index, slice_index_or}
 use Rattle.records.specs.declared.step.Step.{Step}
 use Rattle.records.specs.Steps.{has, no_step, spaced, step_text}
-use Rattle.choosers.specs.Meanings.{Question, when_empty}
+use Rattle.choosers.specs.Meanings.{Question, Answer, when_empty}
 use Rattle.choosers.specs.Fairness.{some_has}
 use Rattle.rota.specs.declared.turns.Turn.{Turn}
 use Rattle.rota.specs.declared.turns.Waiting.{Waiting}
@@ -26,24 +26,24 @@ waiting_after q s w =
     record { turns = at 0 ∷ at 1 ∷ at 2 ∷ at 3 ∷ at 4 ∷ at 5 ∷ at 6 ∷ at 7 ∷ [] }
 
 -- a declined turn changes nothing
-abbrev pub waiting_by : Option ℕ → Waiting → Question → Waiting
-waiting_by (Some n) w q = waiting_after q (slice_index_or q n no_step) w
-waiting_by None w q = w
+abbrev pub waiting_by : Answer → Waiting → Question → Waiting
+waiting_by (Ok n) w q = waiting_after q (slice_index_or q n no_step) w
+waiting_by (Err d) w q = w
 
 -- a turn without a step is passed over
 
-abbrev pub waiting_next : Option ℕ → Waiting → Question → Waiting
-waiting_next o w q = when_empty q w (waiting_by o w q)
+abbrev pub waiting_next : Answer → Waiting → Question → Waiting
+waiting_next a w q = when_empty q w (waiting_by a w q)
 
 abbrev pub turns_after : ℕ → Question → ℕ
 turns_after t q = when_empty q t (one_more t)
 
-abbrev pub outcome_of : Option ℕ → Waiting → Question → Option Picked
-outcome_of (Some n) w q = Some (record { number = n; step = slice_index_or q n no_step; waiting = waiting_after q (slice_index_or q n no_step) w })
-outcome_of None w q = None
+abbrev pub outcome_of : Answer → Waiting → Question → Option Picked
+outcome_of (Ok n) w q = Some (record { number = n; step = slice_index_or q n no_step; waiting = waiting_after q (slice_index_or q n no_step) w })
+outcome_of (Err d) w q = None
 
-abbrev pub turn_of : Option ℕ → ℕ → Waiting → Question → Option Turn
-turn_of o t w q = when_empty q None (Some (record { turn = one_more t; outcome = outcome_of o w q }))
+abbrev pub turn_of : Answer → ℕ → Waiting → Question → Option Turn
+turn_of a t w q = when_empty q None (Some (record { turn = one_more t; outcome = outcome_of a w q }))
 
 -- what is written of a turn
 

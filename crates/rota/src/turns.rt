@@ -62,7 +62,7 @@ impl<C: Chooser> Rota<C> {
         }
         self.turns = self.turns.saturating_add(1);
         let turn = self.turns;
-        let Some(number) = self.chooser.choose(closed) else {
+        let Ok(number) = self.chooser.choose(closed) else {
             return Some(Turn {
                 turn,
                 outcome: None,
