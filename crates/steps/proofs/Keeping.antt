@@ -14,7 +14,7 @@ use Rattle.steps.proofs.Listed.{listed_comes, taken}
 use Rattle.steps.proofs.Offered.{OfferOf, offer_of}
 use Rattle.steps.proofs.Permitted.{sent_is, wanted_is, brings_quiet, brings_sent, brings_received, moved_kept}
 use Rattle.steps.proofs.Sources.{Quiet, SendsOut, ReceivesIn, Meets, Comes, by_itself, in_meeting, going_out, coming_in}
-use Rattle.steps.proofs.Staying.{others_stay, classes_stay, behaviour_stays, start_kept}
+use Rattle.steps.proofs.Staying.{others_stay, its_class_stays, classes_stay, behaviour_stays, start_kept}
 
 nth_set_other : {A : Type 0} (xs : List A) (i j : ℕ) (x : A) → (i ≡ j → ⊥) → slice_get (set xs i x) j ≡ slice_get xs j
 nth_set_other [] i j x h = refl
@@ -67,6 +67,7 @@ step_kept m s given k h = let t = taken m s given h in come_kept m k s given (li
 pub taking_laws : TakingLaws
 taking_laws = record {
   others_stay = others_stay;
+  its_class_stays = its_class_stays;
   classes_stay = classes_stay;
   behaviour_stays = behaviour_stays;
   start_kept = start_kept;

@@ -6,6 +6,8 @@ pub mod Staying
 pub mod Permitted
 pub mod Keeping
 pub mod Bound
+pub mod Closed
+pub mod Numbered
 pub mod Listing
 pub mod Declared
 pub mod Waited

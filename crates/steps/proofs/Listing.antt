@@ -1,4 +1,4 @@
--- How many steps there are, and that none is listed twice.
+-- How many steps there are, that none is listed twice, and which stand first.
 use Rattle.std.proofs.Common.{◌≡◌, ℕ, ◌+◌, ◌*◌, ◌≤◌, Bool, true, false, cond, not, ◌&&◌, eqb, List, [], ◌∷◌, map, length, Some, None, Option, sym, ap, ◌∙◌, ⊎_elim, arith, length-append}
 use Rattle.std.proofs.lemmas.List.{length-map}
 use Rattle.std.specs.List.{flat_map, AllByRecursion}
@@ -20,8 +20,10 @@ use Rattle.steps.specs.Laws.{ListingLaws}
 use Rattle.steps.specs.Models.{Process, Model, class_numbered}
 use Rattle.steps.specs.Steps.{Offer, offers_from, offers, over, agreed, target_kinds, internal_by, internal_steps, receive_meets, send_meets, meeting_steps, meetings, send_by, outside_sends, receive_by, outside_receives, steps_of, steps}
 use Rattle.steps.proofs.Bound.{steps_fit}
+use Rattle.steps.proofs.Closed.{closed_first}
 use Rattle.steps.proofs.Listed.{listed_in, in_listed}
 use Rattle.steps.proofs.Members.{In, in_either, in_place, place_in, in_joined, Apart, Same, apart_append, apart_joined, apart_places}
+use Rattle.steps.proofs.Numbered.{processes_exist}
 use Rattle.steps.proofs.Offered.{SameFront, offers_apart}
 use Rattle.steps.proofs.Sources.{internal_is, send_is, receive_is, meets_is, meeting_comes}
 use Rattle.steps.proofs.Staying.{class_kept}
@@ -163,4 +165,6 @@ listing_laws = record {
   none_twice = λ m i j s p q. apart_places (steps m) (steps_apart m.behaviour (offers m) (offers_apart 0 m.processes)) i j s p q;
   is_in_list = λ m s h. in_place s (steps m) (listed_in s (steps m) h);
   in_list_is = λ m s i h. in_listed s (steps m) (place_in s (steps m) i h);
+  closed_first = closed_first;
+  processes_exist = processes_exist;
 }

@@ -17,7 +17,7 @@ use Rattle.steps.specs.Taking.{process_numbered, offered_front, gone_on, moved, 
 use Rattle.steps.proofs.Members.{place_in, all_in, all_set}
 use Rattle.steps.proofs.Offered.{front_found, OfferOf, process_is}
 use Rattle.steps.proofs.Sources.{Quiet}
-use Rattle.steps.proofs.Staying.{class_kept}
+use Rattle.steps.proofs.Staying.{class_kept, moved_classes}
 
 -- the kinds of variables that exist
 pub targets_have : (vs : List Val) (ws : List ℕ) (js : List Kind) → HaveKinds (map kind_of vs) ws js → target_kinds vs ws ≡ js
@@ -99,4 +99,5 @@ module _ (m : Model) (o : Offer) (h : OfferOf m o) where
           classes_kept = k.classes_kept;
           processes_kept = all_set (ProcessKept m.classes) m.processes o.process _ k.processes_kept (subst (ProcessKept m.classes) (sym (moved_is got)) there);
           few = omega (arith, length-set m.processes o.process (moved (process_numbered m o.process) o.front.number got), k.few);
+          per_proc = λ n. moved_classes m o.process o.front.number got ∙ k.per_proc (omega (arith, n, length-set m.processes o.process (moved (process_numbered m o.process) o.front.number got)));
         }
