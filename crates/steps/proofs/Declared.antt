@@ -7,12 +7,14 @@ use Rattle.admission.proofs.Exchanges.{same_kinds_from}
 use Rattle.processes.specs.Fronts.{receives}
 use Rattle.records.specs.declared.step.Step.{Step}
 use Rattle.records.specs.Steps as step
+use Rattle.arrivals.proofs.Rooted.{root_laws}
 use Rattle.steps.specs.Declaring.{KeepsDeclarations}
 use Rattle.steps.specs.Kept.{ModelKept}
 use Rattle.steps.specs.Laws.{DeclaredLaws}
 use Rattle.steps.specs.Models.{Model}
 use Rattle.steps.specs.Steps.{Offer, offers, target_kinds}
 use Rattle.steps.specs.Taking.{exchanged, fits}
+use Rattle.steps.proofs.Arriving.{sender_meets, receiver_meets}
 use Rattle.steps.proofs.Listed.{listed_comes, taken}
 use Rattle.steps.proofs.Offered.{OfferOf, offer_of}
 use Rattle.steps.proofs.Permitted.{sent_is, wanted_is, declares_sent, declares_received}
@@ -34,7 +36,7 @@ module _ (m : Model) (k : ModelKept m) where
   send_declared o s h q = record {
     sender = other_kind 2 1 refl;
     receiver = other_kind 2 1 refl;
-    outside_send = λ e. (q.channel, declares_sent m o h k q.channel q.message q.values q.does, q.passes);
+    outside_send = λ e. (q.channel, declares_sent m o h k q.channel q.message q.values q.does, root_laws.passes m.behaviour o.process q.channel q.passed q.passes);
     outside_receive = other_kind 2 3 refl;
   }
 
@@ -43,7 +45,7 @@ module _ (m : Model) (k : ModelKept m) where
     sender = other_kind 3 1 refl;
     receiver = other_kind 3 1 refl;
     outside_send = other_kind 3 2 refl;
-    outside_receive = λ e. (q.channel, declares_received m o h k q.channel q.message q.targets ks q.does t, q.passes);
+    outside_receive = λ e. (q.channel, declares_received m o h k q.channel q.message q.targets ks q.does t, root_laws.passes m.behaviour o.process q.channel q.passed q.passes);
   }
 
   meeting_declared : (x r : Offer) (s : Step) → OfferOf m x → OfferOf m r → (q : Meets m.behaviour x r x.front.does s) → KeepsDeclarations m (step.meeting x.process x.front.number r.process r.front.number q.receiver.arrived q.message) (map kind_of q.values)
@@ -51,8 +53,8 @@ module _ (m : Model) (k : ModelKept m) where
       let t : target_kinds hr.one.variables q.receiver.targets ≡ map kind_of q.values = ap (λ vs. target_kinds vs q.receiver.targets) (sym hr.variables) ∙ sym q.receiver.kinds in
       let does : r.front.does ≡ receives q.receiver.channel q.message q.receiver.targets = q.receiver.does ∙ ap (λ n. receives q.receiver.channel n q.receiver.targets) (sym q.receiver.messages) in
       record {
-        sender = λ e. (q.channel, declares_sent m x hx k q.channel q.message q.values q.does, q.receiver.sender_arrives);
-        receiver = λ e. (q.receiver.channel, declares_received m r hr k q.receiver.channel q.message q.receiver.targets _ does t, q.receiver.receiver_arrives);
+        sender = λ e. (q.channel, declares_sent m x hx k q.channel q.message q.values q.does, sender_meets m k x r s hx hr q);
+        receiver = λ e. (q.receiver.channel, declares_received m r hr k q.receiver.channel q.message q.receiver.targets _ does t, receiver_meets m k x r s hx hr q);
         outside_send = other_kind 1 2 refl;
         outside_receive = other_kind 1 3 refl;
       }

@@ -8,6 +8,7 @@ pub mod Keeping
 pub mod Bound
 pub mod Closed
 pub mod Numbered
+pub mod Arriving
 pub mod Listing
 pub mod Declared
 pub mod Waited

@@ -8,10 +8,14 @@ use Rattle.processes.specs.Fronts.{Action, internal, sends, receives}
 use Rattle.processes.specs.Waiting.{Place, at_guard, at_command, ProcessWaits}
 use Rattle.records.specs.declared.step.Step.{Step}
 use Rattle.records.specs.Steps as step
+use Rattle.arrivals.proofs.Meeting.{meeting_laws}
+use Rattle.arrivals.proofs.Rooted.{root_laws}
+use Rattle.steps.specs.Kept.{ModelKept}
 use Rattle.steps.specs.Laws.{RestLaws}
 use Rattle.steps.specs.Models.{Process, Model}
 use Rattle.steps.specs.Resting.{WaitsAt, value_kinds, Meet, Outside, RestsAt, AtRest}
 use Rattle.steps.specs.Steps.{Offer, offers, steps, target_kinds}
+use Rattle.steps.proofs.Arriving.{sender_meets, receiver_meets}
 use Rattle.steps.proofs.Members.{none_empty, empty_none}
 use Rattle.steps.proofs.Offered.{offer, front_offered, OfferOf, offer_of}
 use Rattle.steps.proofs.Sources.{Quiet, Comes, by_itself, in_meeting, going_out, coming_in, step_comes, comes_step}
@@ -44,8 +48,8 @@ module _ (m : Model) (none : (s : Step) → Comes m.behaviour (offers m) s → �
           different = h.different;
           messages = h.messages;
           kinds = sym (kinds_sent one.variables es) ∙ h.kinds;
-          sender_arrives = h.arrive.1;
-          receiver_arrives = h.arrive.2;
+          sender_arrives = meeting_laws.is_arrival m.behaviour p q c h.arrive.0 h.arrive.1;
+          receiver_arrives = meeting_laws.is_arrival m.behaviour q p d h.arrive.0 h.arrive.2;
           is = refl;
         };
       }))
@@ -56,14 +60,14 @@ module _ (m : Model) (none : (s : Step) → Comes m.behaviour (offers m) s → �
         let f = waiting_front one.variables one.left (send c n es) w in
         none (step.outside_send p f.front.number o.0 n)
         (going_out (offer p one f.front) (front_offered m p one f.front numbered f.here)
-        (record { channel = c; message = n; values = map (λ e. eval e one.variables) es; passed = o.0; does = f.does; passes = o.1; is = refl }))
+        (record { channel = c; message = n; values = map (λ e. eval e one.variables) es; passed = o.0; does = f.does; passes = root_laws.is_passed m.behaviour p c o.0 o.1; is = refl }))
 
     no_receive : (d n : ℕ) (ws : List ℕ) → ProcessWaits one.variables one.left (at_command (receive d n ws)) → Outside m p d → ⊥
     no_receive d n ws w o =
         let f = waiting_front one.variables one.left (receive d n ws) w in
         none (step.outside_receive p f.front.number o.0 n)
         (coming_in (offer p one f.front) (front_offered m p one f.front numbered f.here)
-        (record { channel = d; message = n; targets = ws; passed = o.0; does = f.does; passes = o.1; is = refl }))
+        (record { channel = d; message = n; targets = ws; passed = o.0; does = f.does; passes = root_laws.is_passed m.behaviour p d o.0 o.1; is = refl }))
 
     quiet_at : (t : Stmt) → ProcessWaits one.variables one.left (at_command t) → ((a : Action) → Does one.variables t a → Quiet a) → ⊥
     quiet_at t w q =
@@ -158,9 +162,9 @@ module _ (m : Model) (rest : AtRest m) where
         let q = receive_at i.one.variables wait.command o.front.does c n ws wait.does e in
         record { numbered = i.numbered; waits = subst (λ t. ProcessWaits i.one.variables i.one.left (at_command t)) q wait.waits }
 
-  no_step : (s : Step) → Comes m.behaviour (offers m) s → ⊥
-  no_step s (by_itself o h q e) = no_internal o (offer_of m o h) q
-  no_step s (in_meeting x r h l q) =
+  no_step : ModelKept m → (s : Step) → Comes m.behaviour (offers m) s → ⊥
+  no_step kept s (by_itself o h q e) = no_internal o (offer_of m o h) q
+  no_step kept s (in_meeting x r h l q) =
       let i = offer_of m x h in
       let j = offer_of m r l in
       let k = q.receiver in
@@ -168,18 +172,18 @@ module _ (m : Model) (rest : AtRest m) where
       let g = receives_at r j k.channel k.message k.targets k.does in
       let kinds = kinds_sent i.one.variables f.0 ∙ ap (λ xs. map kind_of xs) f.2 ∙ k.kinds ∙ ap (λ vs. target_kinds vs k.targets) j.variables in
       rest x.process i.one (at_command (send q.channel q.message f.0)) i.numbered f.1.waits
-      (inr (r.process, j.one, k.channel, k.message, k.targets, g, record { different = k.different; messages = k.messages; kinds = kinds; arrive = (k.arrived, k.sender_arrives, k.receiver_arrives) }))
-  no_step s (going_out o h q) =
+      (inr (r.process, j.one, k.channel, k.message, k.targets, g, record { different = k.different; messages = k.messages; kinds = kinds; arrive = (k.arrived, sender_meets m kept x r s i j q, receiver_meets m kept x r s i j q) }))
+  no_step kept s (going_out o h q) =
       let i = offer_of m o h in
       let f = sends_at o i q.channel q.message q.values q.does in
-      rest o.process i.one (at_command (send q.channel q.message f.0)) i.numbered f.1.waits (inl (q.passed, q.passes))
-  no_step s (coming_in o h q) =
+      rest o.process i.one (at_command (send q.channel q.message f.0)) i.numbered f.1.waits (inl (q.passed, root_laws.passes m.behaviour o.process q.channel q.passed q.passes))
+  no_step kept s (coming_in o h q) =
       let i = offer_of m o h in
       let f = receives_at o i q.channel q.message q.targets q.does in
-      rest o.process i.one (at_command (receive q.channel q.message q.targets)) i.numbered f.waits (inl (q.passed, q.passes))
+      rest o.process i.one (at_command (receive q.channel q.message q.targets)) i.numbered f.waits (inl (q.passed, root_laws.passes m.behaviour o.process q.channel q.passed q.passes))
 
-rest_none : (m : Model) → AtRest m → steps m ≡ []
-rest_none m rest = none_empty (steps m) (λ s h. no_step m rest s (step_comes m.behaviour (offers m) s h))
+rest_none : (m : Model) → ModelKept m → AtRest m → steps m ≡ []
+rest_none m kept rest = none_empty (steps m) (λ s h. no_step m rest kept s (step_comes m.behaviour (offers m) s h))
 
 pub rest_laws : RestLaws
 rest_laws = record { none_rests = none_rests; rest_none = rest_none }

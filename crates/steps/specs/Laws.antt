@@ -53,7 +53,7 @@ pub record DeclaredLaws : Type 0 where
 -- there is no step exactly when the model is at rest
 pub record RestLaws : Type 0 where
   pub none_rests : (m : Model) → steps m ≡ [] → AtRest m
-  pub rest_none : (m : Model) → AtRest m → steps m ≡ []
+  pub rest_none : (m : Model) → ModelKept m → AtRest m → steps m ≡ []
 
 pub record StepLaws : Type 0 where
   pub procs : ProcLaws

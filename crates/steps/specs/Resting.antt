@@ -6,7 +6,7 @@ use Rattle.values.specs.Values.{Val, kind_of}
 use Rattle.commands.specs.Trees.{Expr, Stmt, skip, assign, send, receive, sequence, select, guard, branch, loop}
 use Rattle.processes.specs.Evaluation.{eval}
 use Rattle.processes.specs.Waiting.{Place, at_guard, at_command, ProcessWaits}
-use Rattle.arrivals.specs.Climbing.{climb, meeting_channel}
+use Rattle.arrivals.specs.Ways.{ComesOut, way, MeetsAs}
 use Rattle.steps.specs.Models.{Process, Model}
 use Rattle.steps.specs.Steps.{target_kinds}
 
@@ -24,11 +24,11 @@ pub record Meet (m : Model) (p : ℕ) (sender : Process) (c message : ℕ) (es :
   pub different : p ≡ q → ⊥
   pub messages : message ≡ message'
   pub kinds : value_kinds sender.variables es ≡ target_kinds receiver.variables ws
-  pub arrive : (k : ℕ) × (meeting_channel m.behaviour p q c ≡ Some k) × (meeting_channel m.behaviour q p d ≡ Some k)
+  pub arrive : (k : ℕ) × MeetsAs m.behaviour p q c k × MeetsAs m.behaviour q p d k
 
--- its channel passes the root
+-- its channel comes out of all commands above its PROC
 abbrev pub Outside : Model → ℕ → ℕ → Type 0
-Outside m p c = (k : ℕ) × (climb m.behaviour p c ≡ Some k)
+Outside m p c = (k : ℕ) × ComesOut (way m.behaviour p) c k
 
 -- something can answer a send or a receive at which process p waits: the outside, or a process that waits at its counterpart
 abbrev pub SendAnswerable : Model → ℕ → Process → ℕ → ℕ → List Expr → Type 0

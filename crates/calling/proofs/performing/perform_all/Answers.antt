@@ -28,7 +28,7 @@ pub returns-clause-declared : goal.returns-clause-declared
 returns-clause-declared g c = all_declared _ _ none_kept
 
 pub returns-clause-rest : goal.returns-clause-rest
-returns-clause-rest g c = all_rest _ _
+returns-clause-rest g c = all_rest _ _ none_kept
 
 pub returns-clause-served : goal.returns-clause-served
 returns-clause-served g c =
