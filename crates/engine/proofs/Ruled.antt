@@ -1,15 +1,14 @@
 -- Every run keeps the rules of runs, and is the only one that does.
-use Rattle.std.proofs.Common.{◌≡◌, ℕ, zero, suc, ◌-◌, ◌<◌, Bool, true, false, cond, eqb, List, [], ◌∷◌, length, Some, None, Option, refl, sym, ap, ◌∙◌, subst, arith}
-use Rattle.std.specs.Prelude.{option_and_then}
+use Rattle.std.proofs.Common.{◌≡◌, ℕ, zero, suc, ◌-◌, ◌<◌, ◌≤◌, leb, le-leb, Bool, true, false, cond, eqb, List, [], ◌∷◌, length, Some, None, Option, Ok, Err, refl, sym, ap, ◌∙◌, subst, arith}
 use Rattle.std.specs.List.{slice_get}
 use Rattle.std.proofs.lemmas.Bool.{eqb-true, eqb-false, eq-eqb, ne_eqb}
 use Rattle.std.proofs.lemmas.Option.{slice_get_within}
 use Rattle.records.specs.declared.step.Step.{Step}
-use Rattle.choosers.specs.Meanings.{Question, Meaning, after}
+use Rattle.choosers.specs.Meanings.{Question, Answer, Meaning, after}
 use Rattle.steps.specs.Taking.{after_step}
 use Rattle.answers.specs.declared.stop.Stop.{Stop}
 use Rattle.answers.specs.declared.stop.Stop.TheVariants.{NoClosedStep, JournalFull, Declined}
-use Rattle.engine.specs.Turns.{entry, closed_steps, Turn, Working, Outcome, stops, takes, picked, answered, turn_over, turn, preceded, continued, run_from}
+use Rattle.engine.specs.Turns.{entry, closed_steps, Turn, Working, Outcome, stops, takes, chosen, picked, answered, turn_over, turn, preceded, continued, run_from}
 use Rattle.engine.specs.Running.{Answers, Picks, Declines, turn_of, once_taken, once_asked, RunsBy, RunsAreThese}
 use Rattle.engine.specs.Running.RunsBy.{spent, none_closed, full, declined, taken}
 use Rattle.engine.proofs.Turning.{turn_empty, turn_full, turn_asked}
@@ -39,12 +38,12 @@ module _ (n : ℕ) (w : Working) (q : Question) (e : q ≡ closed_steps w.model)
       (taken s free (subst (λ c. Picks w.chooser c s) e p) (subst (λ c. RunsBy n (taken_of w s c) turns why left) e more))
 
   by_step : (k : ℕ) → Answers w.chooser q k → (o : Option Step) → slice_get q k ≡ o → Rule n w (answered w q o)
-  by_step k h None g = declines (λ j a. let same : Some j ≡ Some k = sym a ∙ h in let e : j ≡ k = cc in ap (slice_get q) e ∙ g)
+  by_step k h None g = declines (λ j a. let same : ◌≡◌ {A = Answer} (Ok j) (Ok k) = sym a ∙ h in let e : j ≡ k = cc in ap (slice_get q) e ∙ g)
   by_step k h (Some s) g = takes_it s (k, h, g)
 
-  by_answer : (o : Option ℕ) → w.chooser [] q ≡ o → Rule n w (answered w q (option_and_then (slice_get q) o))
-  by_answer None h = declines (λ j a. let z : None ≡ Some j = sym h ∙ a in absurd (let y : ◌≡◌ {A = ℕ} 0 1 = cc in omega arith))
-  by_answer (Some k) h = by_step k h (slice_get q k) refl
+  by_answer : (a : Answer) → w.chooser [] q ≡ a → Rule n w (answered w q (chosen q a))
+  by_answer (Err d) h = declines (λ j a. let z : ◌≡◌ {A = Answer} (Err d) (Ok j) = sym h ∙ a in absurd (let y : ◌≡◌ {A = ℕ} 0 1 = cc in omega arith))
+  by_answer (Ok k) h = by_step k h (slice_get q k) refl
 
 rule : (n : ℕ) (w : Working) (q : Question) → q ≡ closed_steps w.model → Rule n w (turn_over q w)
 unfolding turn_over
@@ -55,10 +54,10 @@ rule n w (x ∷ xs) e = by_room (eqb w.free 0) refl
     by_room true h = full (subst (λ c. 0 < length c) e (omega arith)) (eqb-true w.free 0 h)
     by_room false h = by_answer n w (x ∷ xs) e (omega arith) (let f = eqb-false w.free 0 h in omega arith) (w.chooser [] (x ∷ xs)) refl
 
-every : (budget : ℕ) (w : Working) → let r = run_from budget w in RunsBy budget w r.turns r.stop r.left
+pub every_run : (budget : ℕ) (w : Working) → let r = run_from budget w in RunsBy budget w r.turns r.stop r.left
 unfolding run_from
-every zero w = spent
-every (suc n) w = by (turn w) (rule n w (closed_steps w.model) refl) (λ v. every n v)
+every_run zero w = spent
+every_run (suc n) w = by (turn w) (rule n w (closed_steps w.model) refl) (λ v. every_run n v)
   where
     by : (o : Outcome) → Rule n w o → ((v : Working) → let r = run_from n v in RunsBy n v r.turns r.stop r.left) → let r = continued o (λ v. run_from n v) in RunsBy (suc n) w r.turns r.stop r.left
     by (stops why left) h more = h
@@ -67,9 +66,9 @@ every (suc n) w = by (turn w) (rule n w (closed_steps w.model) refl) (λ v. ever
 picked_none : (c : Meaning) (q : Question) → Declines c q → picked c q ≡ None
 picked_none c q d = by (c [] q) refl
   where
-    by : (o : Option ℕ) → c [] q ≡ o → option_and_then (slice_get q) o ≡ None
-    by None h = refl
-    by (Some k) h = d k h
+    by : (a : Answer) → c [] q ≡ a → chosen q a ≡ None
+    by (Err x) h = refl
+    by (Ok k) h = d k h
 
 -- the run that keeps the rules
 pub run_is : {n : ℕ} {w : Working} {turns : List Turn} {why : Stop} {left : Working} → RunsBy n w turns why left → run_from n w ≡ record { turns = turns; stop = why; left = left }
@@ -82,9 +81,13 @@ run_is (declined {n = n} {w = w} h f d) =
 run_is (taken {n = n} {w = w} s f p more) =
     let q = closed_steps w.model in
     let here : 0 < length q = let l = slice_get_within q p.0 s p.2 in omega arith in
-    let is : picked w.chooser q ≡ Some s = ap (option_and_then (slice_get q)) p.1 ∙ p.2 in
+    let is : picked w.chooser q ≡ Some s = ap (chosen q) p.1 ∙ p.2 in
     run_more (suc n) n w (takes (turn_of w s) (once_taken w s)) refl (turn_asked w q refl here (ne_eqb w.free 0 (λ e. omega arith)) (Some s) is)
     ∙ ap (preceded (turn_of w s ∷ [])) (run_is more)
 
 pub runs_are_these : RunsAreThese
-runs_are_these = record { every = every; only = λ budget w a b h k. sym (run_is h) ∙ run_is k }
+runs_are_these = record { every = every_run; only = λ budget w a b h k. sym (run_is h) ∙ run_is k }
+
+-- so does a run with a step table of enough room
+pub roomy_run : (budget room : ℕ) (w : Working) → 1088 ≤ room → let r = run_from (cond (leb 1088 room) budget 0) w in RunsBy budget w r.turns r.stop r.left
+roomy_run budget room w h = subst (λ b. let r = run_from (cond b budget 0) w in RunsBy budget w r.turns r.stop r.left) (sym (le-leb 1088 room h)) (every_run budget w)

@@ -1,5 +1,5 @@
 -- A run by its rules, turn by turn.
-use Rattle.std.specs.Prelude.{◌≡◌, ℕ, suc, ◌-◌, ◌<◌, List, [], ◌∷◌, length, Some, None}
+use Rattle.std.specs.Prelude.{◌≡◌, ℕ, suc, ◌-◌, ◌<◌, List, [], ◌∷◌, length, Some, None, Ok}
 use Rattle.std.specs.List.{slice_get}
 use Rattle.records.specs.declared.step.Step.{Step}
 use Rattle.choosers.specs.Meanings.{Question, Meaning, after}
@@ -10,7 +10,7 @@ use Rattle.engine.specs.Turns.{entry, closed_steps, Turn, Working, Run, run_from
 
 -- asked about steps, the chooser answers a number
 abbrev pub Answers : Meaning → Question → ℕ → Type 0
-Answers c q n = c [] q ≡ Some n
+Answers c q n = c [] q ≡ Ok n
 
 -- it picks the step with the number that it answers
 abbrev pub Picks : Meaning → Question → Step → Type 0
