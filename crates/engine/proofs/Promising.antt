@@ -10,6 +10,7 @@ use Rattle.engine.proofs.Serving.{fair_choosers_serve}
 
 pub promises_hold : Promises
 promises_hold = record {
+  well_formed = history_kept;
   declared = stays_declared;
   rest = λ chooser calls room held. empty_at_rest (afterwards calls (new chooser)).model (history_kept chooser calls) room held;
   served = fair_choosers_serve;
