@@ -5,8 +5,8 @@ ghost use Rattle.files.specs.Summaries.{summed};
 ghost use Rattle.admission.specs.Admission.{Admitted, Admits};
 ghost use Rattle.admission.specs.Read.{read, ReadAs, ReadsTrees};
 
-use files::file::{Summary, check_file};
 use answers::fault::LoadFault;
+use files::file::{Summary, check_file};
 
 // What loading needs of an admitted file, or the first fault of any other.
 pub fn examine(file: &[u8]) -> Result<Summary, LoadFault>

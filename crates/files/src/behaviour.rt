@@ -5,10 +5,10 @@ ghost use Rattle.answers.specs.declared.fault.FaultKind.TheVariants.{Operand, Pr
 ghost use Rattle.answers.specs.declared.fault.Layer.TheVariants.{Behaviour};
 ghost use Rattle.files.specs.Behaviours.{check_behaviour, operands_fit, few_processes};
 
+use answers::fault::{FaultKind, Layer, LoadFault};
 use commands::behaviour::BehaviourCommand;
 use commands::command::read;
 use heads::checked::{ask, fault};
-use answers::fault::{FaultKind, Layer, LoadFault};
 
 // The most processes of a model.
 const PROCESSES: u8 = 8;

@@ -7,9 +7,9 @@ ghost use Rattle.files.specs.Statements.{check_values, check_set, check_send, ch
 
 use crate::body::Body;
 use crate::operands::{exchange_fits, receive_fits};
+use answers::fault::{FaultKind, Layer, LoadFault};
 use heads::checked::{ask, fault};
 use heads::declarations::Exchange;
-use answers::fault::{FaultKind, Layer, LoadFault};
 use values::few::Few;
 use values::kind::Kind;
 

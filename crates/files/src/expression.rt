@@ -5,10 +5,10 @@ ghost use Rattle.files.specs.Bodies.{kinds_in};
 ghost use Rattle.files.specs.Expressions.{check_expression, leaf_kind, check_leaf, first_fits, both_fit, one_fits};
 
 use crate::body::Body;
+use answers::fault::{FaultKind, Layer, LoadFault};
 use commands::command::read;
 use commands::expression::{ExpressionCommand, Leaf};
 use heads::checked::{ask, fault};
-use answers::fault::{FaultKind, Layer, LoadFault};
 use values::kind::Kind;
 use values::op::Op;
 

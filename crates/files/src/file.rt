@@ -6,10 +6,10 @@ ghost use Rattle.files.specs.Summaries.{summed};
 
 use crate::behaviour::check_behaviour;
 use crate::body::Body;
+use answers::fault::{FaultKind, Layer, LoadFault};
 use heads::bytes::word_at;
 use heads::checked::{ask, fault};
 use heads::class::scope_at;
-use answers::fault::{FaultKind, Layer, LoadFault};
 use heads::head::{check_head, inside};
 use std::fmt;
 

@@ -6,10 +6,10 @@ ghost use Rattle.files.specs.Expressions.{check_expression};
 ghost use Rattle.files.specs.Statements.{check_statement, check_test, placed as placed_at, few_fronts};
 
 use crate::body::Body;
+use answers::fault::{FaultKind, Layer, LoadFault};
 use commands::command::read;
 use commands::statement::StatementCommand;
 use heads::checked::{ask, fault};
-use answers::fault::{FaultKind, Layer, LoadFault};
 use values::kind::Kind;
 
 // The most fronts that a statement can have.

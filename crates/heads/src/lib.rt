@@ -5,6 +5,5 @@ pub mod bytes;
 pub mod checked;
 pub mod class;
 pub mod declarations;
-
 pub mod head;
 pub mod variables;

@@ -9,10 +9,10 @@ ghost use Rattle.models.specs.Taken.{refused, Taken};
 ghost use Rattle.models.specs.Views.{model_of};
 
 use super::Model;
+use answers::refusal::TakeRefusal;
 use processes::front::Sent;
 use records::record::Record;
 use records::step::{INTERNAL, MEETING, OUTSIDE_RECEIVE, Step};
-use answers::refusal::TakeRefusal;
 use tables::exchanged::{normal, sent_by, takes};
 use values::row::Row;
 

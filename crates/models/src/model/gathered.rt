@@ -6,11 +6,11 @@ ghost use Rattle.steps.specs.Steps.{steps};
 ghost use Rattle.models.specs.Views.{model_of, bytes_of};
 
 use super::Model;
+use answers::refusal::NoRoom;
 use listing::fill::put_steps;
 use listing::offer::{Offer, Role};
 use records::list::RecordList;
 use records::step::Step;
-use answers::refusal::NoRoom;
 use tables::offers::put_offers;
 
 // The most steps that a model can have.

@@ -10,10 +10,10 @@ ghost use Rattle.models.specs.Views.{model_of, bytes_of};
 
 use super::Model;
 use super::gathered::MOST_STEPS;
+use answers::refusal::TakeRefusal;
 use processes::front::Front;
 use records::list::RecordList;
 use records::step::Step;
-use answers::refusal::TakeRefusal;
 use tables::offers::front_of;
 use values::row::Row;
 

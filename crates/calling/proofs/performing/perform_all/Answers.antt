@@ -16,7 +16,7 @@ loop-call-preserved g c =
     let old = items c.loop-call.answers in
     let told = c.append-kept.ensures.list ∙ ap (λ a. cond (is_ok c.append-kept.result) (old ++ a ∷ []) old) e.answer in
     let goes = same_rooms _ _ _ _ _ _ _ c.loop-call.invariant.table_room c.loop-call.invariant.answers_room
-        (record { free = free; world = e.leaves; journal = e.journal; fits = is_ok c.append-kept.result; fits_is = c.append-kept.ensures.fits; answers = told }) in
+    (record { free = free; world = e.leaves; journal = e.journal; fits = is_ok c.append-kept.result; fits_is = c.append-kept.ensures.fits; answers = told }) in
     record {
       comes = comes_step _ _ _ _ _ _ _ _ c.loop-call.invariant.comes (omega arith) goes;
       journal_room = e.journal_room ∙ c.loop-call.invariant.journal_room;
