@@ -3,3 +3,4 @@ pub mod Views
 pub mod Takes
 pub mod Taken
 pub mod Making
+pub mod Reading

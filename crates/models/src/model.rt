@@ -9,6 +9,7 @@ use tables::table::Table;
 mod advancing;
 mod gathered;
 mod making;
+mod reading;
 mod taking;
 
 /// A model in fixed memory. Where there are processes, the file is admitted, the arrivals are its behaviour's, and every
