@@ -1,17 +1,12 @@
 -- How a front is written.
 use Rattle.std.specs.Prelude.{ℕ, List, ◌++◌, codes, decimal}
 use Rattle.std.specs.List.{flat_map}
-use Rattle.values.specs.Texts.{text_of}
-use Rattle.values.specs.Values.{Val}
 use Rattle.commands.specs.Texts.{spaced}
 use Rattle.values.specs.Rows.{value_of_row}
 use Rattle.processes.specs.declared.front.Action.{Action}
 use Rattle.processes.specs.declared.front.Action.TheVariants.{Internal, Store, Send, Receive}
 use Rattle.processes.specs.Found.{values_in, variables_in}
-
--- a value with a space before it
-abbrev pub value_word : Val → List ℕ
-value_word v = codes " " ++ text_of v
+use Rattle.records.specs.Texts.{value_word}
 
 abbrev pub action_text : Action → List ℕ
 action_text Internal = codes "internal"

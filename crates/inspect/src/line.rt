@@ -2,13 +2,13 @@
 ghost use Rattle.std.specs.Prelude.{Some};
 ghost use Rattle.std.specs.List.{flat_map};
 ghost use Rattle.commands.specs.Texts.{spaced};
-ghost use Rattle.processes.specs.Found.{values_in};
 ghost use Rattle.processes.specs.Places.{places_of};
-ghost use Rattle.inspect.specs.Lines.{value_word, action_text, line_text};
+ghost use Rattle.inspect.specs.Lines.{action_text, line_text};
 
 use commands::text::Spaced;
-use processes::front::{Action, Front, Sent};
+use processes::front::{Action, Front};
 use processes::left::Left;
+use records::texts::Values;
 use std::fmt;
 
 // A front by its number.
@@ -16,22 +16,6 @@ use std::fmt;
 pub struct Line {
     pub number: u8,
     pub front: Front,
-}
-
-// Values with a space before each.
-#[derive(Clone, Copy)]
-struct Values(Sent);
-
-impl fmt::Display for Values {
-    ghost output = { λ v. Some (flat_map value_word (values_in v.0)) };
-
-    fn fmt<W: fmt::Write>(&self, f: &mut fmt::Formatter<W>) -> fmt::Result {
-        for row in self.0.as_slice() {
-            let value = row.value();
-            write!(f, " {value}")?;
-        }
-        Ok(())
-    }
 }
 
 // What a front does.
@@ -49,7 +33,7 @@ impl fmt::Display for Does {
                 write!(f, "set {variable} {value}")
             }
             Action::Send(channel, message, sent) => {
-                let values = Values(*sent);
+                let values = Values(sent.as_slice());
                 write!(f, "send {channel} {message}{values}")
             }
             Action::Receive(channel, message, targets) => {
@@ -60,9 +44,9 @@ impl fmt::Display for Does {
     }
 }
 
-// The places of what remains, with a space before each.
+/// The places of what remains, with a space before each.
 #[derive(Clone, Copy)]
-struct Places(Left);
+pub struct Places(pub Left);
 
 impl fmt::Display for Places {
     ghost output = { λ p. Some (flat_map spaced (places_of p.0)) };

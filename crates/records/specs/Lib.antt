@@ -1,3 +1,4 @@
 pub mod Steps
 pub mod Records
 pub mod Lists
+pub mod Texts

@@ -4,3 +4,4 @@
 pub mod list;
 pub mod record;
 pub mod step;
+pub mod texts;

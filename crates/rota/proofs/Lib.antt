@@ -1,3 +1,4 @@
+pub mod Following
 pub mod Arrays
 pub mod Lines
 pub mod Names

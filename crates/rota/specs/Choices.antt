@@ -1,5 +1,6 @@
 -- Choosers, as words name them.
-use Rattle.std.specs.Prelude.{◌≡◌, ℕ, List, [], ◌∷◌, vec_items, codes}
+use Rattle.std.specs.Prelude.{◌≡◌, ℕ, List, [], ◌∷◌, ◌++◌, vec_items, codes, decimal}
+use Rattle.std.specs.List.{flat_map}
 use Rattle.rota.specs.declared.choice.Fair.{Fair}
 use Rattle.rota.specs.declared.choice.Fair.TheVariants.{Rotation, Seniority}
 use Rattle.rota.specs.declared.choice.Choice.{Choice}
@@ -36,3 +37,12 @@ abbrev pub choice_fault_text : ChoiceFault → List ℕ
 choice_fault_text NoSuchChooser = codes "no such chooser"
 choice_fault_text NotANumber = codes "a script has numbers from 0 to 65535, and hold one from 0 to 255"
 choice_fault_text NoMemory = codes "no memory for the script"
+
+-- how a chooser is written: by its name, as words name it
+abbrev pub number_word : ℕ → List ℕ
+number_word n = codes " " ++ decimal n
+
+abbrev pub choice_text : Choice → List ℕ
+choice_text (Script ns) = codes "script" ++ flat_map number_word (vec_items ns)
+choice_text (Plain f) = fair_name f
+choice_text (Hold k f) = codes "hold " ++ (decimal k ++ (codes " " ++ fair_name f))

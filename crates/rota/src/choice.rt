@@ -1,11 +1,11 @@
 // Which chooser a rota follows, read from words.
 ghost use Rattle.std.specs.Prelude.{◌≡◌, ◌∷◌, Some, codes, MatchResult, ◌≢◌};
-ghost use Rattle.rota.specs.Choices.{choice_fault_text, fair_name, Chooses, Refused};
+ghost use Rattle.rota.specs.Choices.{choice_fault_text, fair_name, choice_text, Chooses, Refused};
 ghost use Rattle.rota.specs.Words.{texts};
 ghost use Rattle.rota.specs.declared.choice.Fair.{Fair as FairName};
 ghost use Rattle.rota.specs.declared.choice.ChoiceFault.TheVariants.{NoMemory, NoSuchChooser};
 
-use crate::words::{byte, number};
+use crate::words::{byte, two_bytes};
 use std::alloc::{AllocFailed, Global};
 use std::fmt;
 use std::str::FromStr;
@@ -77,6 +77,36 @@ impl FromStr for Fair {
     }
 }
 
+impl fmt::Display for Fair {
+    ghost output = { λ f. Some (fair_name f) };
+
+    fn fmt<W: fmt::Write>(&self, f: &mut fmt::Formatter<W>) -> fmt::Result {
+        match self {
+            Fair::Rotation => write!(f, "rotation"),
+            Fair::Seniority => write!(f, "seniority"),
+        }
+    }
+}
+
+// Its name, as words name it.
+impl fmt::Display for Choice {
+    ghost output = { λ c. Some (choice_text c) };
+
+    fn fmt<W: fmt::Write>(&self, f: &mut fmt::Formatter<W>) -> fmt::Result {
+        match self {
+            Choice::Script(numbers) => {
+                write!(f, "script")?;
+                for number in numbers {
+                    write!(f, " {number}")?;
+                }
+                Ok(())
+            }
+            Choice::Plain(fair) => write!(f, "{fair}"),
+            Choice::Hold(k, fair) => write!(f, "hold {k} {fair}"),
+        }
+    }
+}
+
 // A script, by a word for each of its numbers.
 fn script_of(heap: Global, words: &[&str]) -> Result<Choice, ChoiceFault>
     ensures { MatchResult result (Chooses (codes "script" ∷ texts words.now)) (Refused (codes "script" ∷ texts words.now)) }
@@ -84,7 +114,7 @@ fn script_of(heap: Global, words: &[&str]) -> Result<Choice, ChoiceFault>
     let mut numbers = Vec::new(heap);
     // a word that is no number is one fault, and a list that does not grow another
     for word in words {
-        let Some(n) = number(word, u16::MAX) else {
+        let Some(n) = two_bytes(word) else {
             return Err(ChoiceFault::NotANumber);
         };
         numbers.push(n)?;

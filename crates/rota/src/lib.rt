@@ -2,5 +2,7 @@
 #![tactic(auto)]
 
 pub mod choice;
+pub mod chosen;
+pub mod owned;
 pub mod turns;
 pub mod words;

@@ -38,21 +38,28 @@ impl fmt::Display for StepFault {
     }
 }
 
-// The number that a word of digits writes, from 0 to `top`.
-pub fn number(word: &str, top: u16) -> Option<u16>
+/// The number that a word of digits writes, from 0 to `top`.
+pub fn number(word: &str, top: u32) -> Option<u32>
     ensures { MatchOption result (NoNumber top word.now) (λ n. Number top word.now n) }
 {
     if has_plus(word) {
         return None;
     }
-    word.parse::<u16>().ok().filter(|n| *n <= top)
+    word.parse::<u32>().ok().filter(|n| *n <= top)
 }
 
-// The same of a number that fits a byte, or else this fault.
-pub(crate) fn byte<E: Drop>(word: &str, top: u8, fault: E) -> Result<u8, E>
+/// The same of a number of two bytes, from 0 to 65535.
+pub fn two_bytes(word: &str) -> Option<u16>
+    ensures { MatchOption result (NoNumber 65535 word.now) (λ n. Number 65535 word.now n) }
+{
+    number(word, u16::MAX as u32).map(|n| n as u16)
+}
+
+/// The same of a number that fits a byte, or else this fault.
+pub fn byte<E: Drop>(word: &str, top: u8, fault: E) -> Result<u8, E>
     ensures { MatchResult result (λ n. Number top word.now n) (λ e. NoNumber top word.now × (e ≡ fault)) }
 {
-    number(word, top as u16).map(|n| n as u8).ok_or(fault)
+    number(word, top as u32).map(|n| n as u8).ok_or(fault)
 }
 
 // Whether a plus stands first, which the library's reading would take.

@@ -1,8 +1,8 @@
 // The command `steps`: the steps that an admitted file permits at its start.
-ghost use Rattle.std.specs.Prelude.{◌≡◌, ◌≤◌, Some, Err, IfOk, IfErr, is_ok, if◌then◌else◌};
+ghost use Rattle.std.specs.Prelude.{◌≡◌, ◌≤◌, Err, IfOk, IfErr, is_ok, if◌then◌else◌};
 ghost use Rattle.admission.specs.Read.{read};
 ghost use Rattle.records.specs.Lists.{items, room_of};
-ghost use Rattle.starts.specs.Answers.{listing_text, steps_answer};
+ghost use Rattle.starts.specs.Answers.{steps_answer};
 ghost use Rattle.starts.specs.Firsts.{first_steps};
 
 use answers::fault::LoadFault;
@@ -10,8 +10,8 @@ use inspect::check::answer_bytes;
 use models::model::{MOST_STEPS, Model};
 use records::list::RecordList;
 use records::step::Step;
+use records::texts::Listing;
 use std::alloc::{AllocError, Global};
-use std::fmt;
 
 // Writes the steps of an admitted file at its start; any other is refused with its first fault, and nothing altered.
 fn list_first(file: &[u8], out: &mut RecordList<'_, Step>) -> Result<(), LoadFault>
@@ -24,23 +24,6 @@ fn list_first(file: &[u8], out: &mut RecordList<'_, Step>) -> Result<(), LoadFau
     // the table has room
     let _listed = model.list(out);
     Ok(())
-}
-
-// A list of steps, as the command writes it.
-#[derive(Clone, Copy)]
-pub struct Listing<'a>(pub &'a [Step]);
-
-impl fmt::Display for Listing<'_> {
-    ghost output = { λ l. Some (listing_text l.0.now) };
-
-    fn fmt<W: fmt::Write>(&self, f: &mut fmt::Formatter<W>) -> fmt::Result {
-        let count = self.0.len();
-        write!(f, "listed {count}")?;
-        for step in self.0 {
-            write!(f, "\n{step}")?;
-        }
-        Ok(())
-    }
 }
 
 // The answer for the bytes of a file: the steps at its start, or its first fault.

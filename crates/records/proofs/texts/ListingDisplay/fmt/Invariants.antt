@@ -1,8 +1,8 @@
 use Rattle.std.proofs.Common.{take}
 use Rattle.std.specs.Fmt.{HasWritten, IsPlainFormatter}
 use Rattle.std.specs.List.{flat_map}
-use Rattle.starts.specs.Answers.{step_line}
-use Rattle.starts.proofs.opening.ListingDisplay.fmt.Given as goal
+use Rattle.records.specs.Texts.{step_line}
+use Rattle.records.proofs.texts.ListingDisplay.fmt.Given as goal
 
 abbrev pub invariant-loop-step : goal.invariant-loop-step
 invariant-loop-step g l =

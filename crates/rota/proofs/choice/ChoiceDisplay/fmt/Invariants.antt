@@ -1,0 +1,8 @@
+use Rattle.std.proofs.Common.{◌++◌, take, codes}
+use Rattle.std.specs.Fmt.{HasWritten, IsPlainFormatter}
+use Rattle.std.specs.List.{flat_map}
+use Rattle.rota.specs.Choices.{number_word}
+use Rattle.rota.proofs.choice.ChoiceDisplay.fmt.Given as goal
+
+abbrev pub invariant-loop-number : goal.invariant-loop-number
+invariant-loop-number g l = IsPlainFormatter l.initial.f → HasWritten g.W.Write.write_str_gives l.initial.f (flat_map number_word (take l.number-index l.number-items)) l.f

@@ -1,0 +1,50 @@
+// The choosers that words can name, each as a value of one type.
+ghost use Rattle.std.specs.Prelude.{◌≡◌};
+ghost use Rattle.rota.specs.Chosen.{meaning_of, named};
+
+use crate::choice::{Choice, Fair};
+use crate::owned::OwnedScript;
+use choosers::chooser::Chooser;
+use choosers::hold::Hold;
+use choosers::rotation::Rotation;
+use choosers::seniority::Seniority;
+use records::step::Step;
+
+/// One of the choosers that words can name, wherever it stands.
+#[derive(Drop)]
+pub enum Chosen {
+    Script(OwnedScript),
+    Rotation(Rotation),
+    Seniority(Seniority),
+    HoldRotation(Hold<Rotation>),
+    HoldSeniority(Hold<Seniority>),
+}
+
+impl Chooser for Chosen {
+    ghost meaning = { λ c. meaning_of c };
+
+    fn choose(&mut self, closed: &[Step]) -> Option<usize> {
+        match self {
+            Chosen::Script(chooser) => chooser.choose(closed),
+            Chosen::Rotation(chooser) => chooser.choose(closed),
+            Chosen::Seniority(chooser) => chooser.choose(closed),
+            Chosen::HoldRotation(chooser) => chooser.choose(closed),
+            Chosen::HoldSeniority(chooser) => chooser.choose(closed),
+        }
+    }
+}
+
+impl Choice {
+    /// The chooser that is named, at its start.
+    pub fn chooser(self) -> Chosen
+        ensures { meaning_of result ≡ named self }
+    {
+        match self {
+            Choice::Script(numbers) => Chosen::Script(OwnedScript::new(numbers)),
+            Choice::Plain(Fair::Rotation) => Chosen::Rotation(Rotation::new()),
+            Choice::Plain(Fair::Seniority) => Chosen::Seniority(Seniority::new()),
+            Choice::Hold(k, Fair::Rotation) => Chosen::HoldRotation(Hold::new(Rotation::new(), k)),
+            Choice::Hold(k, Fair::Seniority) => Chosen::HoldSeniority(Hold::new(Seniority::new(), k)),
+        }
+    }
+}
