@@ -4,6 +4,7 @@ ghost use Rattle.rota.specs.Chosen.{meaning_of, named};
 
 use crate::choice::{Choice, Fair};
 use crate::owned::OwnedScript;
+use choosers::answer::Declined;
 use choosers::chooser::Chooser;
 use choosers::hold::Hold;
 use choosers::rotation::Rotation;
@@ -23,7 +24,7 @@ pub enum Chosen {
 impl Chooser for Chosen {
     ghost meaning = { λ c. meaning_of c };
 
-    fn choose(&mut self, closed: &[Step]) -> Option<usize> {
+    fn choose(&mut self, closed: &[Step]) -> Result<usize, Declined> {
         match self {
             Chosen::Script(chooser) => chooser.choose(closed),
             Chosen::Rotation(chooser) => chooser.choose(closed),

@@ -2,6 +2,7 @@
 ghost use Rattle.std.specs.Prelude.{◌≡◌, drop, vec_items};
 ghost use Rattle.choosers.specs.Scripts.{script};
 
+use choosers::answer::Declined;
 use choosers::chooser::Chooser;
 use choosers::script::Script;
 use records::step::Step;
@@ -37,9 +38,9 @@ impl Chooser for OwnedScript {
     ghost meaning = { λ s. script (drop s.followed (vec_items s.numbers)) };
 
     // Where the next number is too high, it stays at it.
-    fn choose(&mut self, closed: &[Step]) -> Option<usize> {
+    fn choose(&mut self, closed: &[Step]) -> Result<usize, Declined> {
         let pick = Script::new(self.left()).choose(closed)?;
         self.followed += 1;
-        Some(pick)
+        Ok(pick)
     }
 }

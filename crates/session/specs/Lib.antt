@@ -1,0 +1,4 @@
+pub mod Operands
+pub mod Values
+pub mod Requests
+pub mod Faults

@@ -1,0 +1,43 @@
+// Why a line asks a session for nothing.
+ghost use Rattle.session.specs.Faults.{fault_text};
+
+use inspect::digits::HexFault;
+use rota::choice::ChoiceFault;
+use std::fmt;
+
+/// Why words ask for nothing: mostly by the command that they name, whose operands they do not have.
+#[derive(Clone, Copy)]
+pub enum RequestFault<'a> {
+    NoSuchCommand,
+    NoMemory,
+    Hex(HexFault<'a>),
+    List,
+    Take,
+    Run,
+    Chooser(ChoiceFault),
+    Journal,
+    State,
+}
+
+impl fmt::Display for RequestFault<'_> {
+    ghost output = { λ x. fault_text x };
+
+    fn fmt<W: fmt::Write>(&self, f: &mut fmt::Formatter<W>) -> fmt::Result {
+        match self {
+            RequestFault::NoSuchCommand => write!(f, "no such command"),
+            RequestFault::NoMemory => write!(f, "there is not enough memory for this line"),
+            RequestFault::Hex(fault) => write!(f, "{fault}"),
+            RequestFault::List => write!(f, "expected list [ROOM], a room from 0 to 65535"),
+            RequestFault::Take => {
+                write!(f, "expected take and seven numbers from 0 to 255, then values")
+            }
+            RequestFault::Run => write!(
+                f,
+                "expected run BUDGET [ROOM], a budget from 0 to 4294967295 and a room from 0 to 65535"
+            ),
+            RequestFault::Chooser(fault) => write!(f, "{fault}"),
+            RequestFault::Journal => write!(f, "expected journal [ROOM], a room from 0 to 65535"),
+            RequestFault::State => write!(f, "expected state and nothing else"),
+        }
+    }
+}
