@@ -45,7 +45,10 @@ impl Choice {
             Choice::Plain(Fair::Rotation) => Chosen::Rotation(Rotation::new()),
             Choice::Plain(Fair::Seniority) => Chosen::Seniority(Seniority::new()),
             Choice::Hold(k, Fair::Rotation) => Chosen::HoldRotation(Hold::new(Rotation::new(), k)),
-            Choice::Hold(k, Fair::Seniority) => Chosen::HoldSeniority(Hold::new(Seniority::new(), k)),
+            Choice::Hold(k, Fair::Seniority) => Chosen::HoldSeniority(Hold::new(
+                Seniority::new(),
+                k,
+            )),
         }
     }
 }

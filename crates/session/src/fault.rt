@@ -29,7 +29,10 @@ impl fmt::Display for RequestFault<'_> {
             RequestFault::Hex(fault) => write!(f, "{fault}"),
             RequestFault::List => write!(f, "expected list [ROOM], a room from 0 to 65535"),
             RequestFault::Take => {
-                write!(f, "expected take and seven numbers from 0 to 255, then values")
+                write!(
+                    f,
+                    "expected take and seven numbers from 0 to 255, then values"
+                )
             }
             RequestFault::Run => write!(
                 f,

@@ -60,7 +60,7 @@ pub fn step_of(words: &[&str]) -> Result<Step, Wrong>
         partner_front,
         channel,
         message,
-        ..,
+        ..
     ] = words
     else {
         return Err(Wrong);

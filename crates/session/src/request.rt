@@ -14,31 +14,17 @@ use values::row::Row;
 /// What a line asks of a session.
 #[derive(Drop)]
 pub enum Request {
-    Load {
-        file: Vec<u8>,
-    },
+    Load { file: Vec<u8> },
     /// With a step table of this room, as for a run.
-    List {
-        room: u16,
-    },
-    Take {
-        step: Step,
-        values: Vec<Row>,
-    },
-    Run {
-        budget: u32,
-        room: u16,
-    },
+    List { room: u16 },
+    Take { step: Step, values: Vec<Row> },
+    Run { budget: u32, room: u16 },
     /// Another chooser for the runs from then on.
-    Choose {
-        choice: Choice,
-    },
+    Choose { choice: Choice },
     /// The records of the journal.
     Journal,
     /// A new, empty journal.
-    NewJournal {
-        room: u16,
-    },
+    NewJournal { room: u16 },
     /// What remains of the processes, and their variables.
     State,
 }
@@ -115,7 +101,11 @@ fn parse_state<'a>(words: &[&'a str]) -> Result<Request, RequestFault<'a>>
     }
 }
 
-fn parse_command<'a>(heap: Global, command: &str, words: &[&'a str]) -> Result<Request, RequestFault<'a>>
+fn parse_command<'a>(
+    heap: Global,
+    command: &str,
+    words: &[&'a str],
+) -> Result<Request, RequestFault<'a>>
     ensures { MatchResult result (Asks (command.now ∷ texts words.now)) (Refused (command.now ∷ texts words.now)) }
 {
     match command {
