@@ -4,3 +4,6 @@
 pub mod fault;
 mod operands;
 pub mod request;
+pub mod session;
+pub mod state;
+mod texts;
