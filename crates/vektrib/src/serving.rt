@@ -1,20 +1,16 @@
 // The command `rota`: who is served at each turn, by a chooser.
 use crate::input::{Next, next_line};
-use choosers::chooser::Chooser;
-use choosers::hold::Hold;
-use choosers::rotation::Rotation;
-use choosers::script::Script;
-use choosers::seniority::Seniority;
 use records::step::Step;
-use rota::choice::{Choice, Fair, parse_chooser};
+use rota::choice::parse_chooser;
+use rota::chosen::Chosen;
 use rota::turns::Rota;
 use rota::words::parse_step;
 use std::ops::ControlFlow;
 
 // Prints a turn, and makes room for the steps of the next.
-fn end_turn<C: Chooser>(
+fn end_turn(
     rt: &HostRuntime,
-    rota: &mut Rota<C>,
+    rota: &mut Rota<Chosen>,
     closed: &mut Vec<Step>,
 ) -> anyhow::Result<()> {
     if let Some(turn) = rota.turn(closed.as_slice()) {
@@ -25,9 +21,9 @@ fn end_turn<C: Chooser>(
 }
 
 // One line of a rota: a step, the end of a turn, or the end of the rota, which breaks off.
-fn take_line<C: Chooser>(
+fn take_line(
     rt: &HostRuntime,
-    rota: &mut Rota<C>,
+    rota: &mut Rota<Chosen>,
     closed: &mut Vec<Step>,
     line: &str,
 ) -> anyhow::Result<ControlFlow<()>> {
@@ -47,7 +43,7 @@ fn take_line<C: Chooser>(
 }
 
 // Follows the lines of a rota to its end or the end of the input.
-fn follow<C: Chooser + Drop>(rt: &HostRuntime, chooser: C) -> anyhow::Result<()> {
+fn follow(rt: &HostRuntime, chooser: Chosen) -> anyhow::Result<()> {
     let mut rota = Rota::new(chooser);
     let mut closed: Vec<Step> = Vec::new(rt.alloc());
     let mut line = String::new(rt.alloc());
@@ -90,10 +86,6 @@ pub fn rota_of(rt: &HostRuntime, words: &[&str]) -> anyhow::Result<()> {
             println!(rt; "wrong: {fault}")?;
             pass_over(rt)
         }
-        Ok(Choice::Script(numbers)) => follow(rt, Script::new(numbers.as_slice())),
-        Ok(Choice::Plain(Fair::Rotation)) => follow(rt, Rotation::new()),
-        Ok(Choice::Plain(Fair::Seniority)) => follow(rt, Seniority::new()),
-        Ok(Choice::Hold(k, Fair::Rotation)) => follow(rt, Hold::new(Rotation::new(), k)),
-        Ok(Choice::Hold(k, Fair::Seniority)) => follow(rt, Hold::new(Seniority::new(), k)),
+        Ok(choice) => follow(rt, choice.chooser()),
     }
 }
