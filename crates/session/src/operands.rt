@@ -44,7 +44,7 @@ pub fn budget_room(words: &[&str]) -> Option<(u32, u16)>
     Some((budget, room))
 }
 
-// A word of a step's field is no byte, or one of a value writes none.
+// Some word is no byte, or there are fewer than seven.
 #[derive(Clone, Copy)]
 pub struct Wrong;
 
