@@ -564,6 +564,25 @@ HELP = [
     "rota CHOOSER      draws up who is served at each turn; lines of closed steps follow,",
     "                  seven numbers each, a blank line ends a turn, and end the rota",
     "                  choosers: script N.., rotation, seniority, hold K rotation, hold K seniority",
+    "load HEX          puts the model of an admitted file into the session's engine, or says why not",
+    "list [ROOM]       lists the steps that are permitted now, seven numbers each;",
+    "                  ROOM is that of the step table, 1088 where it is not given",
+    "take STEP VALUE.. takes one of these steps; an outside receive brings the values of its variables",
+    "run BUDGET [ROOM] takes closed steps that the chooser picks, and says how many, and why it stopped:",
+    "                  0 the budget is spent, 1 no step is closed, 2 the chooser declines,",
+    "                  3 the journal is full",
+    "chooser CHOOSER   has runs ask this chooser from then on; at first hold 3 seniority",
+    "journal [ROOM]    prints the steps that were taken, seven numbers each, with a count of values",
+    "                  and the values; or begins a new journal with ROOM for so many, at first 1000",
+    "state             says of each process the places of the statements that remain, and its variables",
+    "a STEP is seven numbers:",
+    "  kind            0 internal, 1 meeting, 2 outside send, 3 outside receive",
+    "  process         from 0, in file order; in a meeting the one that sends",
+    "  front           the number of the process's front",
+    "  partner         in a meeting the process that receives, and",
+    "  partner's front the number of its front",
+    "  channel         the one on which the exchange arrives, and",
+    "  message         its message; 255 stands in each field that does not apply",
 ]
 # (end of HELP)
 
@@ -727,7 +746,7 @@ class Session:
     def choose(self, words):
         try: self.chooser = chooser_of(words)
         except ValueError as e: return ["wrong: %s" % e]
-        return [texts("chooser", *words)]
+        return [texts("chooser", *(str(int(w)) if w.isdigit() else w for w in words))]
 
     def journals(self, words):
         room = numbers(words, 65535)

@@ -178,7 +178,7 @@ T("list", "listed 2", ENTER % 0, ENTER % 1)
 T("run 6", "ran 6 stop 0")                            # 0 is kept for two more steps from the run before; it stands before 1, and is kept again
 T("run 1", "ran 1 stop 0")                            # then 1
 T("journal", "journal 7", *[ENTER % p + " 0" for p in (0, 0, 0, 0, 0, 0, 1)])
-T("chooser hold  000 \t rotation", "chooser hold 000 rotation")
+T("chooser hold  000 \t rotation", "chooser hold 0 rotation")
 T("journal 20", "journal of room 20")
 T("run 3", "ran 3 stop 0")
 T("chooser hold 256 rotation", NUMBERS)
