@@ -1,5 +1,5 @@
 // Plays a trial session, and prints what came of it.
-use crate::trial::Trial;
+use crate::trial::{Made, Trial};
 use anyhow::Context;
 use calling::call::{Answer, Call};
 use calling::performing::perform_all;
@@ -15,6 +15,7 @@ use records::step::Step;
 use records::texts::Entries;
 use rota::choice::{Choice, Fair};
 use session::state::State;
+use std::alloc::Global;
 
 // One line for what a call answered; what a list wrote and a take entered is seen at the end.
 fn print_answer(rt: &HostRuntime, answer: Answer) -> anyhow::Result<()> {
@@ -44,12 +45,40 @@ fn print_table(rt: &HostRuntime, table: &StepTable<'_>, open: bool) -> anyhow::R
     Ok(())
 }
 
+// What the calls of a trial left: answers, table, journal and processes.
+fn print_end(
+    rt: &HostRuntime,
+    answers: &[Answer],
+    table: &StepTable<'_>,
+    open: bool,
+    journal: &[Record],
+    engine: &Engine,
+) -> anyhow::Result<()> {
+    for answer in answers {
+        print_answer(rt, *answer)?;
+    }
+    print_table(rt, table, open)?;
+    println!(rt; "{}", Entries(journal))?;
+    println!(rt; "{}", State(engine))?;
+    Ok(())
+}
+
+// The calls of a trial, one after the other.
+fn calls_of<'a>(heap: Global, made: &'a [Made]) -> anyhow::Result<Vec<Call<'a>>> {
+    let mut calls = Vec::new(heap);
+    for one in made {
+        calls.push(one.call())?;
+    }
+    Ok(calls)
+}
+
 // Makes the calls under this chooser.
 fn play_under<C: FairChooser>(
     rt: &HostRuntime,
     trial: &Trial,
     chooser: &mut C,
 ) -> anyhow::Result<()> {
+    let calls = calls_of(rt.alloc(), trial.calls.as_slice())?;
     let none = Record::new(Step::internal(0, 0), &[]).context("no record")?;
     let mut steps = vec![in rt.alloc(); Step::internal(0, 0); trial.rooms.table as usize]?;
     let mut records = vec![in rt.alloc(); none; trial.rooms.journal as usize]?;
@@ -57,11 +86,6 @@ fn play_under<C: FairChooser>(
     let mut table = StepTable::new(steps.as_mut_slice());
     let mut journal = Journal::new(records.as_mut_slice());
     let mut answers = RecordList::new(kept.as_mut_slice());
-    let calls: Vec<Call> = trial
-        .calls
-        .iter()
-        .map(|made| made.call())
-        .collect(rt.alloc())?;
     let engine = perform_all(
         calls.as_slice(),
         chooser,
@@ -69,13 +93,14 @@ fn play_under<C: FairChooser>(
         &mut journal,
         &mut answers,
     );
-    for answer in answers.all() {
-        print_answer(rt, *answer)?;
-    }
-    print_table(rt, &table, trial.open)?;
-    println!(rt; "{}", Entries(journal.all()))?;
-    println!(rt; "{}", State(&engine))?;
-    Ok(())
+    print_end(
+        rt,
+        answers.all(),
+        &table,
+        trial.open,
+        journal.all(),
+        &engine,
+    )
 }
 
 /// Makes the calls of a trial on a newly made engine.
