@@ -1,5 +1,5 @@
 -- One more number of a script followed.
-use Rattle.std.proofs.Common.{◌≡◌, ℕ, zero, suc, ◌+◌, Bool, true, false, cond, List, [], ◌∷◌, length, drop, Ok, refl, ◌∙◌, add-one}
+use Rattle.std.proofs.Common.{◌≡◌, ℕ, zero, suc, ◌+◌, true, false, cond, List, [], ◌∷◌, length, drop, Ok, refl, ◌∙◌, add-one}
 use Rattle.std.specs.Prelude.{nat_lt}
 use Rattle.choosers.specs.Meanings.{Question, declines}
 use Rattle.choosers.specs.Scripts.{script_answer, script_next}

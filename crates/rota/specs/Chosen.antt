@@ -1,5 +1,5 @@
 -- What the choosers mean that words can name.
-use Rattle.std.specs.Prelude.{ℕ, drop, vec_items}
+use Rattle.std.specs.Prelude.{drop, vec_items}
 use Rattle.choosers.specs.Meanings.{Meaning, picking}
 use Rattle.choosers.specs.Holds.{hold}
 use Rattle.choosers.specs.Rotations.{rotation}
