@@ -38,10 +38,11 @@ choice_fault_text NoSuchChooser = codes "no such chooser"
 choice_fault_text NotANumber = codes "a script has numbers from 0 to 65535, and hold one from 0 to 255"
 choice_fault_text NoMemory = codes "no memory for the script"
 
--- how a chooser is written: by its name, as words name it
+-- a number with a space before it
 abbrev pub number_word : ℕ → List ℕ
 number_word n = codes " " ++ decimal n
 
+-- how a chooser is written: as words name it
 abbrev pub choice_text : Choice → List ℕ
 choice_text (Script ns) = codes "script" ++ flat_map number_word (vec_items ns)
 choice_text (Plain f) = fair_name f

@@ -1,4 +1,4 @@
-// Turns of a chooser over given closed steps, for trying choosers out.
+// Choosers and closed steps read from words, and turns of a chooser over given closed steps, for trying choosers out.
 #![tactic(auto)]
 
 pub mod choice;
