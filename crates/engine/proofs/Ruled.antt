@@ -9,7 +9,7 @@ use Rattle.steps.specs.Taking.{after_step}
 use Rattle.answers.specs.declared.stop.Stop.{Stop}
 use Rattle.answers.specs.declared.stop.Stop.TheVariants.{NoClosedStep, JournalFull, Declined}
 use Rattle.engine.specs.Turns.{entry, closed_steps, Turn, Working, Outcome, stops, takes, chosen, picked, answered, turn_over, turn, preceded, continued, run_from}
-use Rattle.engine.specs.Running.{Answers, Picks, Declines, turn_of, once_taken, once_asked, RunsBy, RunsAreThese}
+use Rattle.engine.specs.Running.{AnswersNumber, Picks, Declines, turn_with, once_taken, once_asked, RunsBy, RunsAs, RunsAreThese}
 use Rattle.engine.specs.Running.RunsBy.{spent, none_closed, full, declined, taken}
 use Rattle.engine.proofs.Turning.{turn_empty, turn_full, turn_asked}
 use Rattle.engine.proofs.Runs.{run_spent, run_more}
@@ -37,7 +37,7 @@ module _ (n : ℕ) (w : Working) (q : Question) (e : q ≡ closed_steps w.model)
       subst (λ c. RunsBy (suc n) w (record { offered = c; entered = entry w.model s [] } ∷ turns) why left) (sym e)
       (taken s free (subst (λ c. Picks w.chooser c s) e p) (subst (λ c. RunsBy n (taken_of w s c) turns why left) e more))
 
-  by_step : (k : ℕ) → Answers w.chooser q k → (o : Option Step) → slice_get q k ≡ o → Rule n w (answered w q o)
+  by_step : (k : ℕ) → AnswersNumber w.chooser q k → (o : Option Step) → slice_get q k ≡ o → Rule n w (answered w q o)
   by_step k h None g = declines (λ j a. let same : ◌≡◌ {A = Answer} (Ok j) (Ok k) = sym a ∙ h in let e : j ≡ k = cc in ap (slice_get q) e ∙ g)
   by_step k h (Some s) g = takes_it s (k, h, g)
 
@@ -54,7 +54,7 @@ rule n w (x ∷ xs) e = by_room (eqb w.free 0) refl
     by_room true h = full (subst (λ c. 0 < length c) e (omega arith)) (eqb-true w.free 0 h)
     by_room false h = by_answer n w (x ∷ xs) e (omega arith) (let f = eqb-false w.free 0 h in omega arith) (w.chooser [] (x ∷ xs)) refl
 
-pub every_run : (budget : ℕ) (w : Working) → let r = run_from budget w in RunsBy budget w r.turns r.stop r.left
+pub every_run : (budget : ℕ) (w : Working) → RunsAs budget w (run_from budget w)
 unfolding run_from
 every_run zero w = spent
 every_run (suc n) w = by (turn w) (rule n w (closed_steps w.model) refl) (λ v. every_run n v)
@@ -82,12 +82,12 @@ run_is (taken {n = n} {w = w} s f p more) =
     let q = closed_steps w.model in
     let here : 0 < length q = let l = slice_get_within q p.0 s p.2 in omega arith in
     let is : picked w.chooser q ≡ Some s = ap (chosen q) p.1 ∙ p.2 in
-    run_more (suc n) n w (takes (turn_of w s) (once_taken w s)) refl (turn_asked w q refl here (ne_eqb w.free 0 (λ e. omega arith)) (Some s) is)
-    ∙ ap (preceded (turn_of w s ∷ [])) (run_is more)
+    run_more (suc n) n w (takes (turn_with w s) (once_taken w s)) refl (turn_asked w q refl here (ne_eqb w.free 0 (λ e. omega arith)) (Some s) is)
+    ∙ ap (preceded (turn_with w s ∷ [])) (run_is more)
 
 pub runs_are_these : RunsAreThese
 runs_are_these = record { every = every_run; only = λ budget w a b h k. sym (run_is h) ∙ run_is k }
 
 -- so does a run with a step table of enough room
-pub roomy_run : (budget room : ℕ) (w : Working) → 1088 ≤ room → let r = run_from (cond (leb 1088 room) budget 0) w in RunsBy budget w r.turns r.stop r.left
-roomy_run budget room w h = subst (λ b. let r = run_from (cond b budget 0) w in RunsBy budget w r.turns r.stop r.left) (sym (le-leb 1088 room h)) (every_run budget w)
+pub roomy_run : (budget room : ℕ) (w : Working) → 1088 ≤ room → RunsAs budget w (run_from (cond (leb 1088 room) budget 0) w)
+roomy_run budget room w h = subst (λ b. RunsAs budget w (run_from (cond b budget 0) w)) (sym (le-leb 1088 room h)) (every_run budget w)

@@ -22,7 +22,7 @@ use Rattle.engine.specs.Calls.{Runner, take_refusal, load_answer, loaded, listed
 use Rattle.engine.specs.Calls as calls
 use Rattle.engine.specs.Samples.{exchange_step, exchange_record, open_file, cut_file, with_file, with_step, TakeSample, AgainSample, OpenSample, FaultSample, RunSample, Samples}
 use Rattle.admission.specs.Samples.{exchange_file}
-use Rattle.engine.specs.Running.{Answers, Picks, Declines, turn_of, once_taken, once_asked, RunsBy}
+use Rattle.engine.specs.Running.{AnswersNumber, Picks, Declines, turn_with, once_taken, once_asked, RunsBy}
 use Rattle.engine.specs.Running.RunsBy.{none_closed, full, declined, taken}
 use Rattle.engine.proofs.Ruled.{run_is}
 use Rattle.engine.proofs.Runs.{run_spent}
@@ -105,7 +105,7 @@ module _ (a : admission.Samples) (s : steps.Samples) where
     abbrev before : Working
     before = record { model = before_meeting; chooser = m; free = free }
 
-    run_takes : 0 < free → Answers m (exchange_step ∷ []) 0 → RunsBy 5 before (turn_of before exchange_step ∷ []) NoClosedStep (once_taken before exchange_step)
+    run_takes : 0 < free → AnswersNumber m (exchange_step ∷ []) 0 → RunsBy 5 before (turn_with before exchange_step ∷ []) NoClosedStep (once_taken before exchange_step)
     run_takes f h = taken exchange_step f (subst (λ q. Picks m q exchange_step) (sym one_closed) (0, h, refl)) (none_closed none_left)
 
     run_declines : 0 < free → Declines m (exchange_step ∷ []) → RunsBy 5 before [] Declined (once_asked before)

@@ -9,20 +9,20 @@ use Rattle.answers.specs.declared.stop.Stop.TheVariants.{BudgetSpent, NoClosedSt
 use Rattle.engine.specs.Turns.{entry, closed_steps, Turn, Working, Run, run_from}
 
 -- asked about steps, the chooser answers a number
-abbrev pub Answers : Meaning → Question → ℕ → Type 0
-Answers c q n = c [] q ≡ Ok n
+abbrev pub AnswersNumber : Meaning → Question → ℕ → Type 0
+AnswersNumber c q n = c [] q ≡ Ok n
 
 -- it picks the step with the number that it answers
 abbrev pub Picks : Meaning → Question → Step → Type 0
-Picks c q s = (n : ℕ) × Answers c q n × (slice_get q n ≡ Some s)
+Picks c q s = (n : ℕ) × AnswersNumber c q n × (slice_get q n ≡ Some s)
 
 -- it declines: it answers no number, or one that no step has
 abbrev pub Declines : Meaning → Question → Type 0
-Declines c q = (n : ℕ) → Answers c q n → slice_get q n ≡ None
+Declines c q = (n : ℕ) → AnswersNumber c q n → slice_get q n ≡ None
 
 -- the turn in which a step is taken, and what it leaves
-abbrev pub turn_of : Working → Step → Turn
-turn_of w s = record { offered = closed_steps w.model; entered = entry w.model s [] }
+abbrev pub turn_with : Working → Step → Turn
+turn_with w s = record { offered = closed_steps w.model; entered = entry w.model s [] }
 
 abbrev pub once_taken : Working → Step → Working
 once_taken w s = record { model = after_step w.model s []; chooser = after w.chooser (closed_steps w.model); free = w.free - 1 }
@@ -48,11 +48,13 @@ pub data RunsBy : ℕ → Working → List Turn → Stop → Working → Type 0 
   taken :
       {n : ℕ} {w : Working} {turns : List Turn} {why : Stop} {left : Working} (s : Step) →
       0 < w.free → Picks w.chooser (closed_steps w.model) s →
-      RunsBy n (once_taken w s) turns why left → RunsBy (suc n) w (turn_of w s ∷ turns) why left
+      RunsBy n (once_taken w s) turns why left → RunsBy (suc n) w (turn_with w s ∷ turns) why left
+
+-- so it is with a run as a whole
+abbrev pub RunsAs : ℕ → Working → Run → Type 0
+RunsAs budget w r = RunsBy budget w r.turns r.stop r.left
 
 -- every run keeps these rules, and from the same budget and start they allow no other
 pub record RunsAreThese : Type 0 where
-  pub every : (budget : ℕ) (w : Working) → let r = run_from budget w in RunsBy budget w r.turns r.stop r.left
-  pub only :
-      (budget : ℕ) (w : Working) (a b : Run) →
-      RunsBy budget w a.turns a.stop a.left → RunsBy budget w b.turns b.stop b.left → a ≡ b
+  pub every : (budget : ℕ) (w : Working) → RunsAs budget w (run_from budget w)
+  pub only : (budget : ℕ) (w : Working) (a b : Run) → RunsAs budget w a → RunsAs budget w b → a ≡ b

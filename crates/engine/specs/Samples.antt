@@ -19,7 +19,7 @@ use Rattle.answers.specs.declared.stop.Stop.{Stop}
 use Rattle.answers.specs.declared.stop.Stop.TheVariants.{BudgetSpent, NoClosedStep, Declined, JournalFull}
 use Rattle.answers.specs.declared.refusal.TakeRefusal.TheVariants.{NotListed}
 use Rattle.engine.specs.Turns.{Run, run_answer}
-use Rattle.engine.specs.Running.{Answers, Declines}
+use Rattle.engine.specs.Running.{AnswersNumber, Declines}
 use Rattle.engine.specs.Calls.{Runner, load, take, run, World, load_answer, list_answer, listed, refused, take_answer, asked, run_of, next, entered}
 use Rattle.engine.specs.History.{new, afterwards}
 
@@ -50,7 +50,7 @@ run_answered c runner budget free = run_answer 1088 (run_of runner budget 1088 f
 
 -- asked about the one step, the runner's chooser picks it, by its number 0; or declines
 abbrev pub PicksStep : Meaning → Runner → Type 0
-PicksStep c runner = Answers (asked runner (with_file exchange_file c)) (exchange_step ∷ []) 0
+PicksStep c runner = AnswersNumber (asked runner (with_file exchange_file c)) (exchange_step ∷ []) 0
 
 abbrev pub DeclinesStep : Meaning → Runner → Type 0
 DeclinesStep c runner = Declines (asked runner (with_file exchange_file c)) (exchange_step ∷ [])
