@@ -12,6 +12,7 @@ use crate::state::State;
 use crate::texts::answer_of;
 use calling::call::Call;
 use calling::performing::perform;
+use choosers::installed::installed;
 use engine::engine::Engine;
 use engine::lists::{Journal, StepTable};
 use records::step::Step;
@@ -30,13 +31,13 @@ pub struct Session {
 impl Session {
     ghost use Rattle.session.specs.Sessions.{world_of, call_text, request_text, request_leaves, request_enters};
 
-    /// A newly made engine, whose runs ask Hold with K 3 over Seniority.
+    /// A newly made engine, whose runs ask the installed chooser: Hold with K 3 over Seniority.
     pub fn new() -> Session
         ensures { world_of result ≡ new (named (Choice.Hold 3 Fair.Seniority)) }
     {
         Session {
             engine: Engine::new(),
-            chooser: Choice::Hold(3, Fair::Seniority).chooser(),
+            chooser: Chosen::HoldSeniority(installed()),
         }
     }
 

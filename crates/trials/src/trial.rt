@@ -70,14 +70,12 @@ fn script(heap: Global, budget: &str, numbers: &[&str]) -> anyhow::Result<Made> 
     })
 }
 
-// A call that is written as a session's request is.
+// A load or a take, which is written as a session's request is.
 fn request(heap: Global, words: &[&str]) -> anyhow::Result<Made> {
     match parse_request(heap, words).ok().context("a call is wrong")? {
         Request::Load { file } => Ok(Made::Load { file }),
-        Request::List { room: _ } => Ok(Made::List),
         Request::Take { step, values } => Ok(Made::Take { step, values }),
-        Request::Run { budget, room: _ } => Ok(Made::Run { budget }),
-        _ => None.context("a line is no call"),
+        _ => None.context("a line is no call of a trial"),
     }
 }
 
@@ -111,6 +109,10 @@ impl Trial {
                     answers: two_bytes(answers).context("a room is wrong")?,
                 };
             }
+            ["list"] => self.calls.push(Made::List)?,
+            ["run", budget] => self.calls.push(Made::Run {
+                budget: number(budget, u32::MAX).context("a budget is wrong")?,
+            })?,
             ["script", budget, numbers @ ..] => self.calls.push(script(heap, budget, numbers)?)?,
             ["table", "open"] => self.open = true,
             ["end"] => return Ok(true),
