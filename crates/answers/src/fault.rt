@@ -6,6 +6,7 @@ ghost use Rattle.answers.specs.Texts.{fault_text};
 use std::error::Error;
 use std::fmt;
 
+/// What is wrong in a file.
 #[derive(Clone, Copy, PartialEq, Eq, Debug)]
 pub enum FaultKind {
     /// The length is outside 4 to 4,096.
@@ -30,19 +31,29 @@ pub enum FaultKind {
     Processes,
 }
 
+/// The part of a file that a fault is found in.
 #[derive(Clone, Copy, PartialEq, Eq, Debug)]
 pub enum Layer {
+    /// The length and the first four bytes.
     File,
+    /// The length of a class, its variables and its declarations.
     ClassHead,
+    /// A class's statement.
     Statement,
+    /// An expression of a statement.
     Expression,
+    /// The behaviour.
     Behaviour,
 }
 
+/// The first fault of a file that is refused.
 #[derive(Clone, Copy, PartialEq, Eq, Debug)]
 pub struct LoadFault {
+    /// What is wrong.
     pub kind: FaultKind,
+    /// The number of the byte in the file.
     pub place: usize,
+    /// The part of the file.
     pub layer: Layer,
 }
 

@@ -5,7 +5,7 @@ ghost use Rattle.choosers.specs.Firsts.{first, TestsAs};
 
 use records::step::Step;
 
-// The number of the first step that passes: by any `t` that says how the test answers.
+/// The number of the first step that passes: by any `t` that says how the test answers.
 // Choosers go over the slice of closed steps by its numbers, which are what they answer.
 pub fn first_passing<F: Fn(&Step) -> bool>(closed: &[Step], test: F) -> Option<usize>
     requires { F.IsAlwaysCallable test }

@@ -17,7 +17,7 @@ fn kind_at(rows: &[Row], i: usize) -> Option<Kind>
     Some(row.value().kind())
 }
 
-// The kinds of at most four values, none where unused.
+/// The kinds of at most four values, none where unused.
 // One by one: what `from_fn` gives of a closure that calls `kind_at` is not proved.
 pub fn kinds_of(rows: &[Row]) -> [Option<Kind>; 4]
     ensures { result ≡ kind_places 4 (map kind_of (values_of rows.now)) }
@@ -45,7 +45,8 @@ fn target_at(targets: &[u8], rows: &[Row], i: usize) -> Option<Kind>
     Some(variable_kind(rows, *variable))
 }
 
-// The kinds of the variables of a receive, none where unused; one by one as above.
+/// The kinds of the variables of a receive, none where unused.
+// One by one, as above.
 pub fn kinds_of_targets(targets: &[u8], rows: &[Row]) -> [Option<Kind>; 4]
     ensures { result ≡ kind_places 4 (target_kinds (values_of rows.now) targets.now) }
 {

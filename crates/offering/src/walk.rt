@@ -60,7 +60,7 @@ fn put_either(condition: Value, process: u8, n: u8, out: &mut RecordList<'_, Off
     n + 2
 }
 
-// Appends what the statement at `at` offers, numbered from `n` on, and answers the number behind the most fronts.
+/// Appends what the statement at `at` offers, numbered from `n` on, and answers the number behind the most fronts.
 // File and place stay parameters: a struct of both could not hold that a statement stands there, since a ghost field is a
 // fact with one proof at most.
 pub fn put_fronts(

@@ -10,29 +10,39 @@ use std::alloc::{AllocFailed, Global};
 use std::fmt;
 use std::str::FromStr;
 
-// The fair choosers that stand by themselves, and that Hold can stand over.
+/// The fair choosers that stand by themselves, and that Hold can stand over.
 #[derive(Clone, Copy, PartialEq, Eq, Debug)]
 pub enum Fair {
+    /// Rotation.
     Rotation,
+    /// Seniority.
     Seniority,
 }
 
+/// The chooser that words name.
 #[derive(Drop)]
 pub enum Choice {
+    /// Script, with its numbers.
     Script(Vec<u16>),
+    /// A fair chooser by itself.
     Plain(Fair),
+    /// Hold with its K, over a fair chooser.
     Hold(u8, Fair),
 }
 
+/// Why words name no chooser.
 #[derive(Clone, Copy, PartialEq, Eq, Debug)]
 pub enum ChoiceFault {
+    /// The words are no chooser's.
     NoSuchChooser,
+    /// A number of a script, or Hold's K, is none or too high.
     NotANumber,
+    /// There is no memory for the script's numbers.
     NoMemory,
 }
 
 impl ChoiceFault {
-    // The text itself: to write it can fail, to have it can not.
+    /// The text itself: to write it can fail, to have it can not.
     pub fn text(self) -> &'static str
         ensures { result.now ≡ choice_fault_text self }
     {
@@ -122,7 +132,7 @@ fn script_of(heap: Global, words: &[&str]) -> Result<Choice, ChoiceFault>
     Ok(Choice::Script(numbers))
 }
 
-// The chooser that the words name: `script N..`, `rotation`, `seniority`, or `hold K` over one of the last two.
+/// The chooser that the words name: `script N..`, `rotation`, `seniority`, or `hold K` over one of the last two.
 pub fn parse_chooser(heap: Global, words: &[&str]) -> Result<Choice, ChoiceFault>
     ensures { MatchResult result (Chooses (texts words.now)) (Refused (texts words.now)) }
 {

@@ -14,10 +14,15 @@ use records::step::Step;
 /// One of the choosers that words can name, wherever it stands.
 #[derive(Drop)]
 pub enum Chosen {
+    /// Script, with numbers of its own.
     Script(OwnedScript),
+    /// Rotation.
     Rotation(Rotation),
+    /// Seniority.
     Seniority(Seniority),
+    /// Hold over Rotation.
     HoldRotation(Hold<Rotation>),
+    /// Hold over Seniority.
     HoldSeniority(Hold<Seniority>),
 }
 

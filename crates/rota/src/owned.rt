@@ -1,4 +1,4 @@
-// A script that owns its numbers, where `Script` borrows them.
+// Scripts that own their numbers.
 ghost use Rattle.std.specs.Prelude.{◌≡◌, drop, vec_items};
 ghost use Rattle.choosers.specs.Scripts.{script};
 
@@ -7,6 +7,7 @@ use choosers::chooser::Chooser;
 use choosers::script::Script;
 use records::step::Step;
 
+/// A script that owns its numbers, where `Script` borrows them.
 #[derive(Drop)]
 pub struct OwnedScript {
     numbers: Vec<u16>,
@@ -15,6 +16,7 @@ pub struct OwnedScript {
 }
 
 impl OwnedScript {
+    /// Follows these numbers, the first one first.
     pub fn new(numbers: Vec<u16>) -> OwnedScript
         ensures numbers { result.numbers ≡ numbers }
         ensures followed { result.followed ≡ 0 }

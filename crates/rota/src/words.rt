@@ -8,16 +8,21 @@ ghost use Rattle.rota.specs.Words.{step_fault_text, Number, NoNumber, StepWords,
 use records::step::{MEETING, Step};
 use std::fmt;
 
+/// Why words write no closed step.
 #[derive(Clone, Copy, PartialEq, Eq, Debug)]
 pub enum StepFault {
+    /// There are not seven words.
     NotSevenNumbers,
+    /// The kind is not that of a closed step.
     NotClosed,
+    /// A process, or a meeting's partner, is no number from 0 to 7.
     NoProcess,
+    /// Another field is no number from 0 to 255.
     NotAByte,
 }
 
 impl StepFault {
-    // The text itself: to write it can fail, to have it can not.
+    /// The text itself: to write it can fail, to have it can not.
     pub fn text(self) -> &'static str
         ensures { result.now ≡ step_fault_text self }
     {
@@ -69,7 +74,7 @@ fn has_plus(word: &str) -> bool
     matches!(word.as_bytes(), [b'+', ..])
 }
 
-// A closed step, by its seven numbers.
+/// A closed step, by its seven numbers.
 pub fn parse_step(words: &[&str]) -> Result<Step, StepFault>
     ensures exact { MatchResult result (λ s. StepWords (texts words.now) s) (λ _. (s : StepRow) → StepWords (texts words.now) s → ⊥) }
     ensures proper { IfOk result (λ s. (closed s ≡ true) × Numbered s) }

@@ -14,10 +14,13 @@ use values::row::Row;
 /// What a line asks of a session.
 #[derive(Drop)]
 pub enum Request {
+    /// A file to load.
     Load { file: Vec<u8> },
-    /// With a step table of this room, as for a run.
+    /// The steps of the model, with a step table of this room.
     List { room: u16 },
+    /// A step to take, with the values that an outside receive brings.
     Take { step: Step, values: Vec<Row> },
+    /// A run of at most so many steps, with a step table of this room.
     Run { budget: u32, room: u16 },
     /// Another chooser for the runs from then on.
     Choose { choice: Choice },
