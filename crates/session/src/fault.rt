@@ -1,5 +1,5 @@
 // Why a line asks a session for nothing.
-ghost use Rattle.session.specs.Faults.{fault_text};
+ghost use Rattle.session.specs.Faults.{request_fault_text};
 
 use inspect::digits::HexFault;
 use rota::choice::ChoiceFault;
@@ -8,19 +8,28 @@ use std::fmt;
 /// Why words ask for nothing: mostly by the command that they name, whose operands they do not have.
 #[derive(Clone, Copy)]
 pub enum RequestFault<'a> {
+    /// The first word names no command.
     NoSuchCommand,
+    /// There is no memory for what the words write.
     NoMemory,
+    /// `load`: a fault in the hexadecimal digits.
     Hex(HexFault<'a>),
+    /// `list`: the words are no room.
     List,
+    /// `take`: the words are no step with values behind it.
     Take,
+    /// `run`: the words are no budget with, at most, a room behind it.
     Run,
+    /// `chooser`: the words name no chooser.
     Chooser(ChoiceFault),
+    /// `journal`: the words are no room.
     Journal,
+    /// `state`: there are words behind it.
     State,
 }
 
 impl fmt::Display for RequestFault<'_> {
-    ghost output = { λ x. fault_text x };
+    ghost output = { λ x. request_fault_text x };
 
     fn fmt<W: fmt::Write>(&self, f: &mut fmt::Formatter<W>) -> fmt::Result {
         match self {
