@@ -1,8 +1,9 @@
-// A list of stated room over memory that the caller lends, for any kind of record: it never allocates.
+// Lists of records in memory that the caller lends.
 ghost use Rattle.std.specs.Prelude.{◌≤◌, length};
 
 pub mod appending;
 
+/// A list of stated room over memory that the caller lends, for any kind of record: it never allocates.
 #[derive(Drop)]
 pub struct RecordList<'a, T> {
     room: &'a mut [T],
@@ -10,6 +11,6 @@ pub struct RecordList<'a, T> {
     ghost within: { count ≤ length room.now },
 }
 
-// A record that found the list full.
+/// A record that found the list full.
 #[derive(Clone, Copy, PartialEq, Eq, Debug)]
 pub struct Full;

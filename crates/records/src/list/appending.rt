@@ -6,7 +6,7 @@ ghost use Rattle.records.specs.Lists.{items, room_of, optional, Room, Grown};
 use crate::list::{Full, RecordList};
 
 impl<'a, T: Copy> RecordList<'a, T> {
-    // An empty list with room for as many records as the memory holds.
+    /// An empty list with room for as many records as the memory holds.
     pub fn new(room: &'a mut [T]) -> Self
         ensures none { items result ≡ [] }
         ensures room { room_of result ≡ length room.old }
@@ -14,33 +14,28 @@ impl<'a, T: Copy> RecordList<'a, T> {
         RecordList { room, count: 0 }
     }
 
+    /// How many records there are.
     pub fn count(&self) -> usize
         ensures { result ≡ length (items self.now) }
     {
         self.count
     }
 
+    /// How many records there is room for.
     pub fn room(&self) -> usize
         ensures { result ≡ room_of self.now }
     {
         self.room.len()
     }
 
-    // The record with number `n`; none from the count on.
+    /// The record with number `n`; none from the count on.
     pub fn read(&self, n: usize) -> Option<T>
         ensures { result ≡ slice_get (items self.now) n }
     {
         self.all().get(n).copied()
     }
 
-    // Whether there is a record with number `n`.
-    pub fn has(&self, n: usize) -> bool
-        ensures { result ≡ nat_lt n (length (items self.now)) }
-    {
-        n < self.count
-    }
-
-    // One record more; refused, and nothing altered, where the list is full.
+    /// One record more; refused, and nothing altered, where the list is full.
     pub fn append(&mut self, x: T) -> Result<(), Full>
         ensures fits { is_ok result ≡ nat_lt (length (items self.old)) (room_of self.old) }
         ensures list { items self.new ≡ (if is_ok result then items self.old ++ x ∷ [] else items self.old) }
@@ -54,7 +49,7 @@ impl<'a, T: Copy> RecordList<'a, T> {
         Ok(())
     }
 
-    // Appends a record where there is one.
+    /// Appends a record where there is one.
     pub fn append_some(&mut self, x: Option<T>)
         requires { Room self.old (optional x) }
         ensures { Grown self.old self.new (optional x) }
@@ -64,6 +59,7 @@ impl<'a, T: Copy> RecordList<'a, T> {
         }
     }
 
+    /// Empties the list; its room stays.
     pub fn clear(&mut self)
         ensures none { items self.new ≡ [] }
         ensures room { room_of self.new ≡ room_of self.old }
@@ -71,14 +67,14 @@ impl<'a, T: Copy> RecordList<'a, T> {
         self.count = 0;
     }
 
-    // The first `k` records, or all where there are fewer.
+    /// The first `k` records, or all where there are fewer.
     pub fn first(&self, k: usize) -> &[T]
         ensures { result.now ≡ take k (items self.now) }
     {
         &self.room[..k.min(self.count)]
     }
 
-    // All records, in order.
+    /// All records, in order.
     pub fn all(&self) -> &[T]
         ensures { result.now ≡ items self.now }
     {
