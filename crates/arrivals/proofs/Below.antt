@@ -3,9 +3,7 @@ use Rattle.std.proofs.Common.{◌≡◌, ℕ, ◌+◌, ◌-◌, ◌<◌, ◌≤�
 use Rattle.commands.specs.Stands.{BehaviourAt}
 use Rattle.commands.specs.Trees.{Behaviour, parallel, hide, rename}
 use Rattle.admission.specs.Conditions.{processes}
-use Rattle.arrivals.specs.Climbing.{side_of, climb, meeting_channel, past_hide, past_rename, KeptAt}
-use Rattle.arrivals.specs.declared.travel.Side.{Side}
-use Rattle.arrivals.specs.declared.travel.Side.TheVariants.{First, Second}
+use Rattle.arrivals.specs.Climbing.{Side, First, Second, side_of, climb, meeting_channel, KeptAt}
 
 module _ (f : List ℕ) (at n : ℕ) where
   first_by : (a b : Behaviour) → BehaviourAt f (at + 3) a → KeptAt f at n (parallel a b) → KeptAt f (at + 3) n a
@@ -31,12 +29,6 @@ module _ (f : List ℕ) (at n : ℕ) where
 
   pub rename_kept : (u : Behaviour) (x y : ℕ) (a : Behaviour) → u ≡ rename x y a → BehaviourAt f (at + 3) a → KeptAt f at n u → KeptAt f (at + 3) n a
   rename_kept u x y a e s k = rename_by x y a s (subst (λ v. KeptAt f at n v) e k)
-
-  target_by : (x y : ℕ) (a : Behaviour) → KeptAt f at n (rename x y a) → y < 32
-  target_by x y a k = k.kept.1
-
-  pub target_kept : (u : Behaviour) (x y : ℕ) (a : Behaviour) → u ≡ rename x y a → KeptAt f at n u → y < 32
-  target_kept u x y a e k = target_by x y a (subst (λ v. KeptAt f at n v) e k)
 
   turned_by : (x y : ℕ) (a : Behaviour) → KeptAt f at n (rename x y a) → (x < 32) × (y < 32)
   turned_by x y a k = (k.kept.0, k.kept.1)
@@ -81,16 +73,3 @@ module _ (u a b : Behaviour) (e : u ≡ parallel a b) (n : ℕ) (k : n ≡ proce
   meet_second x y h =
       h
       ∙ sym (ap (λ v. meeting_channel v p q c) e ∙ rw (side_at p n (processes a) (Second i) k x, side_at q n (processes a) (Second j) k y))
-
--- HIDE and RENAME
-pub climb_hide : (u : Behaviour) (s : ℕ) (a : Behaviour) (p c : ℕ) (r q : Option ℕ) → u ≡ hide s a → q ≡ climb a p c → r ≡ past_hide s q → r ≡ climb u p c
-climb_hide u s a p c r q e h k = k ∙ ap (past_hide s) h ∙ sym (ap (λ v. climb v p c) e)
-
-pub climb_rename : (u : Behaviour) (x y : ℕ) (a : Behaviour) (p c : ℕ) (r q : Option ℕ) → u ≡ rename x y a → q ≡ climb a p c → r ≡ past_rename x y q → r ≡ climb u p c
-climb_rename u x y a p c r q e h k = k ∙ ap (past_rename x y) h ∙ sym (ap (λ v. climb v p c) e)
-
-pub meet_hide : (u : Behaviour) (s : ℕ) (a : Behaviour) (p q c : ℕ) (r : Option ℕ) → u ≡ hide s a → r ≡ meeting_channel a p q c → r ≡ meeting_channel u p q c
-meet_hide u s a p q c r e h = h ∙ sym (ap (λ v. meeting_channel v p q c) e)
-
-pub meet_rename : (u : Behaviour) (x y : ℕ) (a : Behaviour) (p q c : ℕ) (r : Option ℕ) → u ≡ rename x y a → r ≡ meeting_channel a p q c → r ≡ meeting_channel u p q c
-meet_rename u x y a p q c r e h = h ∙ sym (ap (λ v. meeting_channel v p q c) e)

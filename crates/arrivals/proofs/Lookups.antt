@@ -1,14 +1,11 @@
 -- The table has every arrival.
-use Rattle.std.proofs.Common.{◌≡◌, ℕ, ◌+◌, ◌*◌, ◌/◌, ◌%◌, ◌<◌, Bool, true, false, cond, eqb, List, get_or, IfSome, Some, None, Option, sym, ◌∙◌, subst, arith, lt-ltb, ne_eqb}
+use Rattle.std.proofs.Common.{◌≡◌, ℕ, ◌+◌, ◌*◌, ◌/◌, ◌%◌, ◌<◌, Bool, true, false, cond, eqb, get_or, IfSome, Some, None, Option, ◌∙◌, subst, arith, lt-ltb, ne_eqb}
 use Rattle.std.proofs.lemmas.Nat.{div-mul-add, mod-mul-add}
 use Rattle.std.proofs.lemmas.List.FromFn.{get_or-map-range_with_len}
-use Rattle.commands.specs.Stands.{BehaviourAt}
 use Rattle.commands.specs.Trees.{Behaviour, process, parallel, hide, rename}
 use Rattle.admission.specs.Conditions.{BehaviourKept, processes}
 use Rattle.commands.specs.Sets.{in_set}
-use Rattle.arrivals.specs.Climbing.{side_of, by_side, past_hide, past_rename, climb, meeting_channel, arrival, arrival_entry, arrival_table, arrival_in, KeptAt}
-use Rattle.arrivals.specs.declared.travel.Side.{Side}
-use Rattle.arrivals.specs.declared.travel.Side.TheVariants.{First, Second}
+use Rattle.arrivals.specs.Climbing.{Side, First, Second, side_of, by_side, past_hide, past_rename, climb, meeting_channel, arrival, arrival_entry, arrival_table, arrival_in}
 use Rattle.arrivals.specs.Laws.{TableLaws}
 
 abbrev Small : Option ℕ → Type 0
@@ -44,14 +41,6 @@ meeting_small n (parallel a b) p q c h l =
     (λ i. by_part (side_of q (processes a)) (λ j. climb b i c) (λ j. meeting_channel b i j c) (λ j. climb_small n b i c h.1 l) (λ j. meeting_small n b i j c h.1 l))
 meeting_small n (hide s a) p q c h l = meeting_small n a p q c h.1 l
 meeting_small n (rename x y a) p q c h l = meeting_small n a p q c h.2 l
-
--- a channel that stays below 32, from what the code answers for the tree that stands there
-module _ (f : List ℕ) (at n : ℕ) (b : Behaviour) (k : KeptAt f at n b) where
-  pub climb_below : (p c : ℕ) (r : Option ℕ) → ((u : Behaviour) → BehaviourAt f at u → r ≡ climb u p c) → c < 32 → Small r
-  climb_below p c r e l = subst Small (sym (e b k.here)) (climb_small n b p c k.kept l)
-
-  pub meeting_below : (p q c : ℕ) (r : Option ℕ) → ((u : Behaviour) → BehaviourAt f at u → r ≡ meeting_channel u p q c) → c < 32 → Small r
-  meeting_below p q c r e l = subst Small (sym (e b k.here)) (meeting_small n b p q c k.kept l)
 
 small_of : (r : Option ℕ) (d : ℕ) → Small r → r ≡ Some d → d < 32
 small_of r d h e = subst Small e h

@@ -4,9 +4,7 @@ use borrow.Author.Tests.{eqb-false}
 use Rattle.commands.specs.Trees.{Behaviour, process, parallel, hide, rename}
 use Rattle.admission.specs.Conditions.{processes}
 use Rattle.commands.specs.Sets.{in_set}
-use Rattle.arrivals.specs.Climbing.{side_of, by_side, past_hide, past_rename, climb}
-use Rattle.arrivals.specs.declared.travel.Side.{Side}
-use Rattle.arrivals.specs.declared.travel.Side.TheVariants.{First, Second}
+use Rattle.arrivals.specs.Climbing.{Side, First, Second, side_of, by_side, past_hide, past_rename, climb}
 use Rattle.arrivals.specs.Laws.{RootLaws}
 use Rattle.arrivals.specs.Ways.{Passed, par, hides, renames, Passes, ComesOut, way}
 

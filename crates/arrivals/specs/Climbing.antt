@@ -5,8 +5,6 @@ use Rattle.commands.specs.Sets.{in_set}
 use Rattle.commands.specs.Stands.{BehaviourAt}
 use Rattle.commands.specs.Trees.{Behaviour, process, parallel, hide, rename}
 use Rattle.admission.specs.Conditions.{BehaviourKept, processes}
-use Rattle.arrivals.specs.declared.travel.Side.{Side}
-use Rattle.arrivals.specs.declared.travel.Side.TheVariants.{First, Second}
 
 -- what comes out of a HIDE and of a RENAME, given what arrives below it
 abbrev pub past_hide : ℕ → Option ℕ → Option ℕ
@@ -16,6 +14,11 @@ past_hide s (Some d) = cond (in_set s d) None (Some d)
 abbrev pub past_rename : ℕ → ℕ → Option ℕ → Option ℕ
 past_rename x y None = None
 past_rename x y (Some d) = cond (d == x) (Some y) (Some d)
+
+-- the part of a PAR that has a process, and its number in that part
+pub data Side : Type 0 where
+  First : ℕ → Side
+  Second : ℕ → Side
 
 -- where process p is in a PAR whose first part has n processes
 abbrev pub side_of : ℕ → ℕ → Side

@@ -4,4 +4,3 @@
 pub mod facts;
 mod filling;
 pub mod table;
-pub mod travel;

@@ -11,8 +11,8 @@ use std::marker::Model;
 // Where to, for what leaves the model: the last column of the table, behind those of the processes.
 const OUTSIDE: u8 = 8;
 
-// As what each of 32 channels of 8 processes arrives at each of 9 places where to, if it does.
-// In memory each is a byte, 255 for none.
+/// As what each of 32 channels of 8 processes arrives at each of 9 places where to, if it does.
+/// In memory each is a byte, 255 for none.
 #[derive(Clone, Copy)]
 pub struct Arrivals {
     bytes: [u8; 2304],
@@ -40,7 +40,7 @@ fn channel_of(byte: u8) -> Option<u8>
 }
 
 impl Arrivals {
-    // Nothing arrives anywhere.
+    /// Nothing arrives anywhere.
     pub fn none() -> Arrivals
         ensures entries { result.channels ≡ replicate 2304 None }
         ensures empty { (p to c : ℕ) → arrival_in result.channels p to c ≡ None }
@@ -50,7 +50,7 @@ impl Arrivals {
         }
     }
 
-    // The arrivals of the behaviour at `at`.
+    /// The arrivals of the behaviour at `at`.
     pub fn of(file: &[u8], at: usize) -> Arrivals
         requires { (n : ℕ) × (b : Behaviour) × KeptAt file.now at n b }
         ensures { (b : Behaviour) → BehaviourAt file.now at b → result.channels ≡ arrival_table b }
@@ -73,7 +73,7 @@ impl Arrivals {
         }
     }
 
-    // As what the channel of process `p` arrives at the lowest PAR above `p` and `q`.
+    /// As what the channel of process `p` arrives at the lowest PAR above `p` and `q`.
     pub fn meeting(&self, p: u8, q: u8, channel: u8) -> Option<u8>
         ensures { result ≡ meeting_in self.now.channels p q channel }
     {
@@ -84,7 +84,7 @@ impl Arrivals {
         }
     }
 
-    // As what the channel of process `p` passes the root.
+    /// As what the channel of process `p` passes the root.
     pub fn outside(&self, p: u8, channel: u8) -> Option<u8>
         ensures { result ≡ arrival_in self.now.channels p 8 channel }
     {

@@ -2,7 +2,7 @@ use Rattle.std.proofs.Common.{ap, arith}
 use Rattle.commands.specs.Behaviours.{command_size}
 use Rattle.admission.specs.Conditions.{processes}
 use Rattle.parts.proofs.Walking.{behaviour_here, no_behaviour}
-use Rattle.arrivals.proofs.travel.+processes_in.Goals as goal
+use Rattle.models.proofs.behaviour.+processes_in.Goals as goal
 
 pub unreachable-requires : goal.unreachable-requires
 unreachable-requires t c = no_behaviour c.args.file.now c.args.at c.requires.0 c.in_default.ensures.exact c.requires.1
