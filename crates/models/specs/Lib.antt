@@ -1,6 +1,6 @@
 pub mod Sound
 pub mod Views
 pub mod Takes
-pub mod Taken
+pub mod Checking
 pub mod Making
 pub mod Reading

@@ -5,7 +5,7 @@ ghost use Rattle.processes.specs.Evaluation.{values_of};
 ghost use Rattle.records.specs.Records.{record_of};
 ghost use Rattle.steps.specs.Taking.{fits, refusal, exchanged, after_step};
 ghost use Rattle.tables.specs.Exchanging.{rows_in};
-ghost use Rattle.models.specs.Taken.{refused, Taken};
+ghost use Rattle.models.specs.Checking.{refusal_in};
 ghost use Rattle.models.specs.Views.{model_of};
 
 use super::Model;
@@ -31,9 +31,9 @@ impl Model {
         }
     }
 
-    // Whether a step is taken with these values; else why not.
+    /// Whether a step is taken with these values; else why not.
     pub fn check(&self, step: &Step, values: &[Row]) -> Result<(), TakeRefusal>
-        ensures exact { refused result ≡ refusal (model_of self.now) step.now (values_of values.now) }
+        ensures exact { refusal_in result ≡ refusal (model_of self.now) step.now (values_of values.now) }
         ensures short { result ≡ Ok tt → length values.now ≤ 4 }
     {
         if !self.lists(step) {
@@ -64,8 +64,8 @@ impl Model {
 }
 
 impl Model {
-    // Takes a step that is not refused: who is in it goes on, and the answer is its journal record.
-    // For a caller that has checked it already.
+    /// Takes a step that is not refused: who is in it goes on, and the answer is its journal record.
+    /// For a caller that has checked it already.
     pub fn perform(&mut self, step: &Step, values: &[Row]) -> Record
         requires free { refusal (model_of self.old) step.now (values_of values.now) ≡ None }
         requires short { length values.now ≤ 4 }
@@ -81,13 +81,5 @@ impl Model {
             self.go_on(step.partner, step.partner_front, exchanged.as_slice());
         }
         record
-    }
-
-    // Takes a step with the values that an outside receive brings, or says why not; a refused step alters nothing.
-    pub fn advance(&mut self, step: &Step, values: &[Row]) -> Result<Record, TakeRefusal>
-        ensures { Taken (model_of self.old) (model_of self.new) step.now (values_of values.now) result }
-    {
-        self.check(step, values)?;
-        Ok(self.perform(step, values))
     }
 }

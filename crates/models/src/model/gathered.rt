@@ -13,7 +13,7 @@ use records::list::RecordList;
 use records::step::Step;
 use tables::offers::put_offers;
 
-// The most steps that a model can have.
+/// The most steps that a model can have.
 pub const MOST_STEPS: usize = 1088;
 
 // What the memory of offers holds at first.
@@ -31,7 +31,8 @@ impl Model {
         &self.file[0..self.length]
     }
 
-    // Empties the table and writes all steps, in their order; a table with room for fewer than 1,088 is refused, and nothing altered.
+    /// Empties the table and writes all steps, in their order; a table with room for fewer than 1,088 is refused, and nothing
+    /// altered.
     pub fn list(&self, out: &mut RecordList<'_, Step>) -> Result<(), NoRoom>
         ensures room { room_of out.new ≡ room_of out.old }
         ensures answer { is_ok result ≡ nat_le 1088 (room_of out.old) }

@@ -64,7 +64,7 @@ fn copied(file: &[u8]) -> [u8; 4096]
 }
 
 impl Model {
-    // The model that a file starts as, or the file's first fault.
+    /// The model that a file starts as, or the file's first fault.
     pub fn start(file: &[u8]) -> Result<Model, LoadFault>
         ensures { started result ≡ start_of file.now }
     {
@@ -82,7 +82,7 @@ impl Model {
         })
     }
 
-    // A model without processes.
+    /// A model without processes.
     pub fn new() -> Model
         ensures { model_of result ≡ no_processes }
     {
