@@ -9,11 +9,14 @@ use heads::variables::Variables;
 use processes::left::Left;
 use values::row::{Row, UNKNOWN};
 
-// All eight rows, as the table of processes takes them; those beyond the variables are the unknown Integer's.
+/// A fresh process, with all eight rows as the table of processes takes them.
 #[derive(Clone, Copy)]
 pub struct Fresh {
+    /// How many variables it has.
     pub variables: u8,
+    /// Their rows; those beyond are the unknown Integer's.
     pub rows: [Row; 8],
+    /// The places of the statements that remain.
     pub left: Left,
 }
 
@@ -31,7 +34,7 @@ fn start_rows(file: &[u8], variables: Variables) -> [Row; 8]
 }
 
 impl Fresh {
-    // A process of a class that has done nothing yet.
+    /// A process of a class that has done nothing yet.
     pub fn of(file: &[u8], class: u8) -> Fresh
         requires { (c : Class) × ClassOf file.now class c }
         ensures { (c : Class) → ClassOf file.now class c → FreshOf file.now c result }

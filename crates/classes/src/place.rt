@@ -4,7 +4,7 @@ ghost use Rattle.classes.specs.Classes.{ClassOf, Begins};
 
 use heads::class::end_of_class;
 
-// Where the bytes of a class begin, behind its length.
+/// Where the bytes of a class begin, behind its length.
 pub fn class_at(file: &[u8], class: u8) -> usize
     requires { (c : Class) × ClassOf file.now class c }
     ensures { (c : Class) → ClassOf file.now class c → Begins file.now result c }
