@@ -3,7 +3,6 @@ use Rattle.std.specs.Prelude.{is_ok}
 use Rattle.records.specs.Lists.{items, room_of}
 use Rattle.engine.specs.History.{new}
 use Rattle.engine.specs.Promises.{ServesEveryone}
-use Rattle.engine.specs.Lent.{free_in}
 use Rattle.engine.specs.Views.{world}
 use Rattle.engine.proofs.Kept.{none_kept}
 use Rattle.engine.proofs.Serving.{fair_choosers_serve}
