@@ -104,7 +104,7 @@ fn play_under<C: FairChooser>(
 }
 
 /// Makes the calls of a trial on a newly made engine.
-pub fn play(rt: &HostRuntime, trial: &Trial) -> anyhow::Result<()> {
+pub(crate) fn play(rt: &HostRuntime, trial: &Trial) -> anyhow::Result<()> {
     match trial.chooser {
         Choice::Plain(Fair::Rotation) => play_under(rt, trial, &mut Rotation::new()),
         Choice::Plain(Fair::Seniority) => play_under(rt, trial, &mut Seniority::new()),

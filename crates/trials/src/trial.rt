@@ -11,7 +11,7 @@ use values::row::Row;
 
 /// A call with what it is made with, which it owns.
 #[derive(Drop)]
-pub enum Made {
+pub(crate) enum Made {
     Load { file: Vec<u8> },
     List,
     Take { step: Step, values: Vec<Row> },
@@ -21,7 +21,7 @@ pub enum Made {
 
 impl Made {
     /// The call itself.
-    pub fn call(&self) -> Call<'_> {
+    pub(crate) fn call(&self) -> Call<'_> {
         match self {
             Made::Load { file } => Call::Load {
                 file: file.as_slice(),
@@ -42,7 +42,7 @@ impl Made {
 
 /// The rooms of the step table, the journal and the list of answers.
 #[derive(Clone, Copy)]
-pub struct Rooms {
+pub(crate) struct Rooms {
     pub table: u16,
     pub journal: u16,
     pub answers: u16,
@@ -50,7 +50,7 @@ pub struct Rooms {
 
 /// The chooser that is followed, the rooms, the calls, and whether what the table holds at the end is open.
 #[derive(Drop)]
-pub struct Trial {
+pub(crate) struct Trial {
     pub chooser: Choice,
     pub rooms: Rooms,
     pub calls: Vec<Made>,
@@ -81,7 +81,7 @@ fn request(heap: Global, words: &[&str]) -> anyhow::Result<Made> {
 
 impl Trial {
     /// No calls, under the chooser and with the rooms of a session.
-    pub fn new(heap: Global) -> Trial {
+    pub(crate) fn new(heap: Global) -> Trial {
         Trial {
             chooser: Choice::Hold(3, Fair::Seniority),
             rooms: Rooms {
@@ -95,7 +95,7 @@ impl Trial {
     }
 
     /// Reads one line; whether it ends the trial.
-    pub fn read_line(&mut self, heap: Global, words: &[&str]) -> anyhow::Result<bool> {
+    pub(crate) fn read_line(&mut self, heap: Global, words: &[&str]) -> anyhow::Result<bool> {
         match words {
             ["session", chooser @ ..] => {
                 self.chooser = parse_chooser(heap, chooser)
