@@ -1,8 +1,9 @@
 // The command `fronts`: what a fresh process of each class can do first.
-ghost use Rattle.std.specs.Prelude.{◌≡◌, length, is_some, Ok};
+ghost use Rattle.std.specs.Prelude.{◌≡◌, length, is_some, IfSome, Ok};
 ghost use Rattle.commands.specs.Trees.{Class, File};
 ghost use Rattle.admission.specs.Read.{read};
-ghost use Rattle.processes.specs.Found.{front_numbered, Answers};
+ghost use Rattle.processes.specs.Stores.{stores};
+ghost use Rattle.processes.specs.Found.{front_numbered, stored_by, Answers};
 ghost use Rattle.classes.specs.Classes.{ClassOf};
 ghost use Rattle.classes.specs.Starts.{FreshOf};
 ghost use Rattle.inspect.specs.Offers.{first_fronts};
@@ -18,7 +19,8 @@ use processes::front::Front;
 // File and process are no struct with a ghost field: such a fact has to have one proof at most, and this one names a class.
 fn first_front(file: &[u8], process: Fresh, number: u8) -> Option<Front>
     requires { (c : Class) × FreshOf file.now c process }
-    ensures { (c : Class) → FreshOf file.now c process → Answers file.now c.variables result (front_numbered number (first_fronts c)) }
+    ensures found { (c : Class) → FreshOf file.now c process → Answers file.now c.variables result (front_numbered number (first_fronts c)) }
+    ensures stores { (c : Class) → FreshOf file.now c process → IfSome result (λ x. stored_by x.action ≡ stores c.variables c.statement number) }
 {
     let variables = &process.rows[..process.variables as usize];
     front_of_places(file, process.left, variables, number)

@@ -96,7 +96,7 @@ given Same a b = refl
 given And a b = refl
 given Or a b = refl
 
-eval_kind : (vs : List Val) (k : Kind) (e : Expr) → ExprKept (map kind_of vs) k e → kind_of (eval e vs) ≡ k
+pub eval_kind : (vs : List Val) (k : Kind) (e : Expr) → ExprKept (map kind_of vs) k e → kind_of (eval e vs) ≡ k
 eval_kind vs k (leaf l) h = leaf_kept vs k l h
 eval_kind vs k (binary op a b) h = given op (eval a vs) (eval b vs) ∙ h.0
 eval_kind vs k (negation a) h = sym h.0
@@ -121,15 +121,15 @@ stored_kinds vs (w ∷ ws) (x ∷ got) h =
     stored_kinds (set vs w x) ws got (subst (λ ks. HaveKinds ks ws (map kind_of got)) (sym p) h.1) ∙ p
 
 -- lists of fronts
-all_join : (P : Front → Type 0) (xs ys : List Front) → AllByRecursion P xs → AllByRecursion P ys → AllByRecursion P (xs ++ ys)
+pub all_join : (P : Front → Type 0) (xs ys : List Front) → AllByRecursion P xs → AllByRecursion P ys → AllByRecursion P (xs ++ ys)
 all_join P [] ys a b = b
 all_join P (x ∷ xs) ys a b = (a.0, all_join P xs ys a.1 b)
 
-all_guarded : (P : Front → Type 0) (t : Bool) (xs : List Front) → AllByRecursion P xs → AllByRecursion P (cond t xs [])
+pub all_guarded : (P : Front → Type 0) (t : Bool) (xs : List Front) → AllByRecursion P xs → AllByRecursion P (cond t xs [])
 all_guarded P true xs a = a
 all_guarded P false xs a = tt
 
-all_offered : (P : Front → Type 0) (t : Bool) (x : Front) → P x → AllByRecursion P (offered t x)
+pub all_offered : (P : Front → Type 0) (t : Bool) (x : Front) → P x → AllByRecursion P (offered t x)
 all_offered P true x p = (p, tt)
 all_offered P false x p = tt
 

@@ -1,6 +1,7 @@
 pub mod Behind
 pub mod Waited
 pub mod Numbered
+pub mod Stores
 pub mod Kept
 pub mod Sending
 pub mod Numbers

@@ -5,9 +5,7 @@ use Rattle.commands.specs.Trees.{Stmt, skip, assign, send, receive, sequence, se
 use Rattle.admission.specs.Conditions.{most_fronts}
 use Rattle.processes.specs.Evaluation.{eval}
 use Rattle.processes.specs.Fronts.{Front, front, internal, is_true, is_false, offered, behind, fronts}
-use Rattle.processes.specs.Laws.{Ascend, FrontLaws}
-use Rattle.processes.proofs.Kept.{class_laws, process_stands}
-use Rattle.processes.proofs.Waited.{fronts_and_waiting}
+use Rattle.processes.specs.Laws.{Ascend}
 
 -- a list that ends below a number may be followed by one that begins there
 joined : (from middle below : ℕ) (xs ys : List Front) → Ascend from xs middle → Ascend middle ys below → Ascend from (xs ++ ys) below
@@ -46,6 +44,3 @@ numbered vs n (loop e a) = two_ways (eval e vs) n (front n internal vs (a ∷ lo
 -- the same before the rest of a process
 pub numbered_before : (vs : List Val) (n : ℕ) (s : Stmt) (rest : List Stmt) → Ascend n (map (behind rest) (fronts vs n s)) (n + most_fronts s)
 numbered_before vs n s rest = ascend_behind rest n (n + most_fronts s) (fronts vs n s) (numbered vs n s)
-
-pub laws : FrontLaws
-laws = record { numbered = numbered; waiting = fronts_and_waiting; classes = class_laws; process_stands = process_stands; unknown_guard = λ vs s rest. refl; closed_first = λ vs n e a b h. rw h }

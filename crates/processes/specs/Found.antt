@@ -30,6 +30,13 @@ action_of (Store v row) = internal
 action_of (Send channel message s) = sends channel message (values_in s)
 action_of (Receive channel message t) = receives channel message (variables_in t)
 
+-- what an action of the code stores by itself: a variable and its value, or nothing
+abbrev pub stored_by : ActionC → Option (ℕ × Val)
+stored_by Internal = None
+stored_by (Store v row) = Some (v, value_of_row row)
+stored_by (Send channel message s) = None
+stored_by (Receive channel message t) = None
+
 -- the variables that an action of the code leaves by itself
 abbrev pub own_work : List Val → ActionC → List Val
 own_work vs Internal = vs

@@ -1,14 +1,17 @@
 -- Laws of fronts.
-use Rattle.std.specs.Prelude.{◌≡◌, ℕ, ◌+◌, ◌≤◌, false, List, [], ◌∷◌, map}
+use Rattle.std.specs.Prelude.{◌≡◌, ℕ, ◌+◌, ◌-◌, ◌≤◌, false, List, [], ◌∷◌, map, Some, IfSome}
+use Rattle.std.specs.List.{slice_get, AllByRecursion}
+use Rattle.values.specs.declared.kind.Kind.{Kind}
 use Rattle.values.specs.Values.{Val, kind_of}
 use Rattle.commands.specs.declared.expression.Leaf.TheVariants.{Bool as BoolL}
-use Rattle.commands.specs.Trees.{Expr, leaf, Stmt, select, guard, Class}
-use Rattle.admission.specs.Conditions.{most_fronts}
+use Rattle.commands.specs.Trees.{Expr, leaf, Stmt, select, guard, Declaration, Class}
+use Rattle.admission.specs.Conditions.{StmtKept, ClassKept, most_fronts}
 use Rattle.processes.specs.declared.left.Left.{Left}
 use Rattle.processes.specs.Found.{ProcessAt, Standing}
 use Rattle.processes.specs.Evaluation.{eval}
 use Rattle.processes.specs.Fronts.{Front, is_true, fronts, process_fronts}
-use Rattle.processes.specs.Classes.{ClassLaws}
+use Rattle.processes.specs.Stores.{stores, process_stores, with_stored}
+use Rattle.processes.specs.Classes.{ProcessOf, ClassLaws}
 use Rattle.processes.specs.Waiting.{FrontsAndWaiting}
 
 -- the numbers ascend strictly, from one number on and below another
@@ -21,6 +24,12 @@ pub record FrontLaws : Type 0 where
   pub numbered : (vs : List Val) (n : ℕ) (s : Stmt) → Ascend n (fronts vs n s) (n + most_fronts s)
   pub waiting : FrontsAndWaiting
   pub classes : ClassLaws
+  -- a front leaves the variables with what it stores put in
+  pub leaves_stored : (vs : List Val) (n : ℕ) (s : Stmt) → AllByRecursion (λ (x : Front). x.variables ≡ with_stored vs (stores vs s (x.number - n))) (fronts vs n s)
+  -- a process of a class stores only into a variable that exists, and a value of its kind
+  pub stores_kept : (c : Class) (vs : List Val) (left : List Stmt) (n : ℕ) → ClassKept c → ProcessOf c vs left → IfSome (process_stores vs left n) (λ p. slice_get (map kind_of c.variables) p.0 ≡ Some (kind_of p.1))
+  -- the same of statements that each keep these kinds and declarations
+  pub stores_kept_by : (ks : List Kind) (ds : List Declaration) (vs : List Val) (left : List Stmt) (n : ℕ) → map kind_of vs ≡ ks → AllByRecursion (StmtKept ks ds) left → IfSome (process_stores vs left n) (λ p. slice_get ks p.0 ≡ Some (kind_of p.1))
   -- a guard that is unknown offers nothing
   pub unknown_guard : (vs : List Val) (s : Stmt) (rest : List Stmt) → process_fronts vs (guard (leaf (BoolL 2)) s ∷ rest) ≡ []
   -- a guard that is not true offers nothing, and in a SEL it keeps the numbers of what it could offer

@@ -1,6 +1,7 @@
 pub mod Evaluation
 pub mod Places
 pub mod Fronts
+pub mod Stores
 pub mod Waiting
 pub mod Classes
 pub mod Found

@@ -1,11 +1,12 @@
 // The fronts of a process in a file.
-ghost use Rattle.std.specs.Prelude.{◌≡◌, ℕ, ◌+◌, true, false, List, map};
+ghost use Rattle.std.specs.Prelude.{◌≡◌, ℕ, ◌+◌, true, false, List, map, IfSome};
 ghost use Rattle.values.specs.Values.{meaning};
 ghost use Rattle.processes.specs.Fronts.{is_true, is_false, behind, fronts, process_fronts};
 ghost use Rattle.values.specs.declared.kind.Kind.{Kind};
 ghost use Rattle.commands.specs.Trees.{Stmt, Declaration, Class};
 ghost use Rattle.processes.specs.Evaluation.{values_of};
-ghost use Rattle.processes.specs.Found.{one_front, two_fronts, front_numbered, Answers, Ready, ProcessAt, Standing};
+ghost use Rattle.processes.specs.Stores.{stores, process_stores};
+ghost use Rattle.processes.specs.Found.{one_front, two_fronts, front_numbered, stored_by, Answers, Ready, ProcessAt, Standing};
 
 use crate::counting::most_fronts;
 use crate::evaluation::evaluate;
@@ -58,7 +59,8 @@ fn two_fronts(condition: Value, number: u8, yes: Left, no: Left) -> Option<Front
 // fact with one proof at most.
 fn front_at(file: &[u8], at: usize, rest: Left, variables: &[Row], number: u8) -> Option<Front>
     requires { (s : Stmt) × (ss : List Stmt) × Ready file.now at rest s ss }
-    ensures { (s : Stmt) (ss : List Stmt) (k : ℕ) → Ready file.now at rest s ss → Answers file.now (values_of variables.now) result (front_numbered (k + number) (map (behind ss) (fronts (values_of variables.now) k s))) }
+    ensures found { (s : Stmt) (ss : List Stmt) (k : ℕ) → Ready file.now at rest s ss → Answers file.now (values_of variables.now) result (front_numbered (k + number) (map (behind ss) (fronts (values_of variables.now) k s))) }
+    ensures stores { (s : Stmt) (ss : List Stmt) → Ready file.now at rest s ss → IfSome result (λ x. stored_by x.action ≡ stores (values_of variables.now) s number) }
 {
     let Some(command) = read::<StatementCommand>(file, at) else {
         return unreachable();
@@ -110,7 +112,8 @@ fn front_at(file: &[u8], at: usize, rest: Left, variables: &[Row], number: u8) -
 // The front of a number of a process; none where the process does not offer it.
 pub fn front(file: &[u8], left: Left, variables: &[Row], number: u8) -> Option<Front>
     requires { (c : Class) × (ss : List Stmt) × ProcessAt file.now left (values_of variables.now) c ss }
-    ensures { (c : Class) (ss : List Stmt) → ProcessAt file.now left (values_of variables.now) c ss → Answers file.now (values_of variables.now) result (front_numbered number (process_fronts (values_of variables.now) ss)) }
+    ensures found { (c : Class) (ss : List Stmt) → ProcessAt file.now left (values_of variables.now) c ss → Answers file.now (values_of variables.now) result (front_numbered number (process_fronts (values_of variables.now) ss)) }
+    ensures stores { (c : Class) (ss : List Stmt) → ProcessAt file.now left (values_of variables.now) c ss → IfSome result (λ x. stored_by x.action ≡ process_stores (values_of variables.now) ss number) }
 {
     front_of_places(file, left, variables, number)
 }
@@ -118,7 +121,8 @@ pub fn front(file: &[u8], left: Left, variables: &[Row], number: u8) -> Option<F
 // The same of places where statements stand, whatever class they are of.
 pub fn front_of_places(file: &[u8], left: Left, variables: &[Row], number: u8) -> Option<Front>
     requires { (ks : List Kind) × (ds : List Declaration) × (ss : List Stmt) × Standing file.now left ks ds ss }
-    ensures { (ks : List Kind) (ds : List Declaration) (ss : List Stmt) → Standing file.now left ks ds ss → Answers file.now (values_of variables.now) result (front_numbered number (process_fronts (values_of variables.now) ss)) }
+    ensures found { (ks : List Kind) (ds : List Declaration) (ss : List Stmt) → Standing file.now left ks ds ss → Answers file.now (values_of variables.now) result (front_numbered number (process_fronts (values_of variables.now) ss)) }
+    ensures stores { (ks : List Kind) (ds : List Declaration) (ss : List Stmt) → Standing file.now left ks ds ss → IfSome result (λ x. stored_by x.action ≡ process_stores (values_of variables.now) ss number) }
 {
     let (at, rest) = left.split()?;
     front_at(file, at as usize, rest, variables, number)

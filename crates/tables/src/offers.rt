@@ -1,9 +1,10 @@
 // What the processes of a table offer.
-ghost use Rattle.std.specs.Prelude.{◌+◌, ◌*◌, ◌≤◌, map, length};
+ghost use Rattle.std.specs.Prelude.{◌≡◌, ◌+◌, ◌*◌, ◌≤◌, map, length, IfSome};
 ghost use Rattle.std.specs.List.{AllByRecursion};
 ghost use Rattle.commands.specs.ByteLists.{Bytes};
 ghost use Rattle.processes.specs.Evaluation.{values_of};
-ghost use Rattle.processes.specs.Found.{Answers};
+ghost use Rattle.processes.specs.Stores.{process_stores};
+ghost use Rattle.processes.specs.Found.{stored_by, Answers};
 ghost use Rattle.records.specs.Lists.{items, room_of, Grown};
 ghost use Rattle.listing.specs.Offers.{offer_of, Holdable};
 ghost use Rattle.steps.specs.Steps.{offers_from};
@@ -24,6 +25,7 @@ use values::row::Row;
 pub fn front_of(file: &[u8], classes: u8, entry: &Entry, rows: &[Row], number: u8) -> Option<Front>
     requires { SoundProcess file.now classes entry.now rows.now }
     ensures front { Answers file.now (values_of rows.now) result (offered_front (view file.now entry.now rows.now) number) }
+    ensures stores { let one = view file.now entry.now rows.now in IfSome result (λ x. stored_by x.action ≡ process_stores one.variables one.left number) }
     ensures bytes { Bytes file.now }
 {
     front_of_places(file, entry.left, rows, number)

@@ -1,8 +1,9 @@
 // Taking a step of a model.
-ghost use Rattle.std.specs.Prelude.{◌≡◌, ◌<◌};
+ghost use Rattle.std.specs.Prelude.{◌≡◌, ◌<◌, IfSome};
 ghost use Rattle.commands.specs.ByteLists.{Bytes};
 ghost use Rattle.processes.specs.Evaluation.{values_of};
-ghost use Rattle.processes.specs.Found.{Answers};
+ghost use Rattle.processes.specs.Stores.{process_stores};
+ghost use Rattle.processes.specs.Found.{stored_by, Answers};
 ghost use Rattle.steps.specs.Steps.{steps};
 ghost use Rattle.steps.specs.Taking.{process_numbered, offered_front, is_in, with_moved};
 ghost use Rattle.models.specs.Takes.{FrontTakes};
@@ -21,6 +22,7 @@ impl Model {
     // The front of a number of process `p`; none where there is no such process or front.
     pub(super) fn front(&self, p: u8, number: u8) -> Option<Front>
         ensures front { Answers (bytes_of self.now) (process_numbered (model_of self.now) p).variables result (offered_front (process_numbered (model_of self.now) p) number) }
+        ensures stores { let one = process_numbered (model_of self.now) p in IfSome result (λ x. stored_by x.action ≡ process_stores one.variables one.left number) }
         ensures bytes { p < self.now.count → Bytes (bytes_of self.now) }
     {
         if p >= self.count {

@@ -9,4 +9,7 @@ front_of_places-requires c =
     (map kind_of d.variables, d.declarations, c.requires.1, process_stands _ _ _ d _ c.requires.2)
 
 pub returns : goal.returns
-returns c d ss h = c.front_of_places.ensures (map kind_of d.variables) d.declarations ss (process_stands _ _ _ d ss h)
+returns c = record {
+  found = λ d ss h. c.front_of_places.ensures.found (map kind_of d.variables) d.declarations ss (process_stands _ _ _ d ss h);
+  stores = λ d ss h. c.front_of_places.ensures.stores (map kind_of d.variables) d.declarations ss (process_stands _ _ _ d ss h);
+}

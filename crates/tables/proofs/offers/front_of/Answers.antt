@@ -13,4 +13,8 @@ pub returns : goal.returns
 returns c =
     let small = bytes_from c.args.file.now (λ i. omega (arith, (c.type_inv.file i).fits)) in
     let g = good c.args.file.now c.args.classes c.args.entry.now c.args.rows.now small c.requires in
-    record { front = c.front_of_places.ensures _ _ _ g.of_its_class.stands; bytes = small }
+    record {
+      front = c.front_of_places.ensures.found _ _ _ g.of_its_class.stands;
+      stores = c.front_of_places.ensures.stores _ _ _ g.of_its_class.stands;
+      bytes = small;
+    }
