@@ -4,6 +4,9 @@ ghost use Rattle.processes.specs.Places.{places_of, split_places};
 
 use values::few::Few;
 
+/// The most statements that can remain of a process.
+pub const ROOM: u8 = 32;
+
 #[derive(Clone, Copy)]
 pub struct Left {
     places: Few<u16, 32>,

@@ -10,6 +10,15 @@ mod behaviour;
 mod expression;
 mod statement;
 
+/// Begins a line: the place, and two spaces for each level.
+pub fn begin(rt: &HostRuntime, at: usize, level: u8) -> anyhow::Result<()> {
+    print!(rt; "{at:5} ")?;
+    for _ in 0..level {
+        print!(rt; "  ")?;
+    }
+    Ok(())
+}
+
 // A model file, and where its text goes. Place and level stay parameters: each part has others.
 #[derive(Clone, Copy)]
 pub struct Page<'a> {
@@ -18,13 +27,8 @@ pub struct Page<'a> {
 }
 
 impl Page<'_> {
-    // Begins a line: the place, and two spaces for each level.
     fn begin(&self, at: usize, level: u8) -> anyhow::Result<()> {
-        print!(self.rt; "{at:5} ")?;
-        for _ in 0..level {
-            print!(self.rt; "  ")?;
-        }
-        Ok(())
+        begin(self.rt, at, level)
     }
 
     // By a pattern: a variable that is cut short is not shown.

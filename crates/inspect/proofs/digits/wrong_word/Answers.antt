@@ -1,9 +1,9 @@
-use Rattle.std.proofs.Common.{rules, tests, ℕ, List, map, Bor}
+use Rattle.std.proofs.Common.{rules, tests, ℕ, List, Bor}
 use Rattle.std.proofs.lemmas.Iterator.{YieldsList-from_slice}
 use Rattle.std.proofs.lemmas.Iterator.Search.{position_from_yields_List}
 use Rattle.inspect.specs.Words.{wrong}
-use Rattle.inspect.proofs.Words.{named, none_wrong, odd_number}
-use Rattle.inspect.proofs.digits.fault_of.Goals as goal
+use Rattle.inspect.proofs.Words.{named, none_wrong}
+use Rattle.inspect.proofs.digits.wrong_word.Goals as goal
 
 pub returns-in-Some : goal.returns-in-Some
 returns-in-Some c =
@@ -13,5 +13,4 @@ returns-in-Some c =
 pub returns-in-None : goal.returns-in-None
 returns-in-None c =
     let found = position_from_yields_List (λ (w : Bor (List ℕ)). wrong w.now) _ _ c.position.result c.position.ensures.ran (YieldsList-from_slice c.args.words.now cc) (λ x b q k. search (rules, tests)) in
-    let none = none_wrong c.args.words.now c.position.result found c.in-None.is in
-    (none, odd_number (map (λ (w : Bor (List ℕ)). w.now) c.args.words.now) none c.requires)
+    none_wrong c.args.words.now c.position.result found c.in-None.is
